@@ -1,0 +1,82 @@
+-- A run of calls over the definitions of the calls.
+use Prim.Native.Nat.{ℕ, zero, suc, _+_, _*_, _-_}
+use mathlib.Core.List.{List, [], _∷_, _++_, map}
+use mathlib.Core.Bool.{Bool, true, false}
+use lib.ListN.{length, set, replicate}
+use Rattle.model.specs.Words.{pick, word, capacity, pool, root, storeLength, nodeSize, part, put, height, count, start, end}
+use Rattle.model.specs.Tree.{Node, Level, next, last, overPairs, Limit, Open, Below, level}
+use Rattle.model.specs.Reading.{rootTree}
+use Rattle.model.specs.Refusals.{Answer, result, refused, Outcome}
+use Rattle.model.specs.Create.{create}
+use Rattle.model.specs.Lookup.{tryFindRow}
+use Rattle.model.specs.Append.{insertRowPage}
+use Rattle.model.specs.Prune.{pruneCheckpointPrefix}
+use Rattle.model.specs.LeafWalk.{seek, pageEntry, Stepped, nextLeafOf}
+use Rattle.model.specs.Release.{Released, destroy, destroyEmpty}
+use Rattle.model.specs.FullCheck.{fullCheck}
+use Rattle.model.specs.declared.node.PageEntry.{PageEntry}
+use Rattle.model.specs.declared.cursor.RowPageIndexMemCursor.{RowPageIndexMemCursor}
+
+pub data Call : Type 0 where
+  Create : ℕ → ℕ → ℕ → Call
+  Append : ℕ → ℕ → Call
+  Find : ℕ → Call
+  Prune : ℕ → ℕ → List ℕ → Call
+  Walk : ℕ → Call
+  Release : ℕ → Call
+  ReleaseEmpty : Call
+  Check : Call
+  -- height, count, start and end of every node, in reading order
+  Shape : Call
+  -- word i of the store, or word j of node n, becomes x
+  Set : ℕ → ℕ → Call
+  Put : ℕ → ℕ → ℕ → Call
+
+-- the leaves from a cursor on: the answers up to the first that is no leaf
+unfoldable pub walkAnswers : List ℕ → ℕ → Stepped → List Answer
+walkAnswers w zero s = []
+walkAnswers w (suc k) s = s .answer ∷ unlessLeaf (s .answer) (walkAnswers w k (nextLeafOf w (s .cursor) (s .list)))
+  where
+    unlessLeaf : Answer → List Answer → List Answer
+    unlessLeaf (result []) more = []
+    unlessLeaf (result (x ∷ xs)) more = more
+    unlessLeaf (refused a d) more = []
+
+unfoldable pub shapes : (h : ℕ) → Level h → List ℕ
+shapes zero x = []
+shapes (suc h) t =
+    t .height ∷ length (t .pairs) ∷ t .start ∷ t .end ∷ overPairs (λ x r b. shapes h x) (t .pairs) Open
+
+-- an answer, or those of a walk, and the words afterwards
+pub record Ran : Type 0 where
+  pub answers : List Answer
+  pub words : List ℕ
+
+abbrev pub ran : Outcome → Ran
+ran o = record { answers = o .answer ∷ []; words = o .words }
+
+-- lists lent here always suffice
+unfoldable pub run : List ℕ → Call → Ran
+run w (Create C P s) = ran (create (replicate (storeLength C P) 7) C P s)
+run w (Append k x) = ran (insertRowPage w k x)
+run w (Find q) = record { answers = tryFindRow w q ∷ []; words = w }
+run w (Prune s e ids) = ran (pruneCheckpointPrefix w s e ids)
+run w (Walk q) = record { answers = walkAnswers w 20 (nextLeafOf w (seek q) (replicate 8 (pageEntry 0 0))); words = w }
+run w (Release v) = let r = destroy w v (replicate 20 0) in record { answers = r .answer ∷ []; words = r .words }
+run w ReleaseEmpty = ran (destroyEmpty w)
+run w Check = record { answers = fullCheck w ∷ []; words = w }
+run w Shape =
+    record { answers = result (shapes (suc (height (capacity w) w (root w))) (rootTree (capacity w) w (root w))) ∷ []; words = w }
+run w (Set i x) = record { answers = result [] ∷ []; words = set w i x }
+run w (Put n j x) = record { answers = result [] ∷ []; words = put (capacity w) w n j x }
+
+-- a call and what it must answer
+abbrev pub Line : Type 0
+Line = Call × List Answer
+
+unfoldable pub answersFrom : List ℕ → List Line → List (List Answer)
+answersFrom w [] = []
+answersFrom w (l ∷ ls) = let r = run w (l .0) in r .answers ∷ answersFrom (r .words) ls
+
+abbrev pub expected : List Line → List (List Answer)
+expected ls = map (λ (l : Line). l .1) ls
