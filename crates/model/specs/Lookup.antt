@@ -6,7 +6,7 @@ use mathlib.Core.Bool.{Bool, true, false, _&&_}
 use lib.Dec.{leb, ltb, eqb}
 use Rattle.model.specs.Words.{pick, capacity, pool, root, part, height, count, start, end, row, child}
 use Rattle.model.specs.Tree.{Limit, Open, Below, rootSound}
-use Rattle.model.specs.Reading.{Reached, unsound, leaf, rootLeaf, lastNotAbove, toRow}
+use Rattle.model.specs.Reading.{Entry, Reached, unsound, leaf, rootLeaf, lastNotAbove, toRow}
 use Rattle.model.specs.Refusals.{Answer, result, refused, whenOpen}
 
 unfoldable pub foundIn : ℕ → List ℕ → ℕ → Reached → Answer
@@ -23,3 +23,13 @@ tryFindRow w q =
     let inside = foundIn C w q (rootLeaf (toRow C w q) C P w n) in
     let outside = pick (rootSound C w n) (result []) (refused 2 n) in
     whenOpen w (λ (a : Answer). a) (pick (ltb q (start C w n)) outside inside)
+
+-- The same by the entries alone: the page of the entry that holds row q, or none --------------------------
+
+unfoldable pub under : ℕ → Limit → Bool
+under q Open = true
+under q (Below e) = ltb q e
+
+unfoldable pub entryFind : List Entry → ℕ → Answer
+entryFind [] q = result []
+entryFind (e ∷ es) q = pick (leb (e .low) q && under q (e .high)) (result (e .page ∷ [])) (entryFind es q)

@@ -1,0 +1,6 @@
+pub mod Tests
+pub mod Words
+pub mod Sound
+pub mod Frame
+pub mod Once
+pub mod Look
