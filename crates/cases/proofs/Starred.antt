@@ -6,7 +6,7 @@ use Rattle.model.specs.Create.{chained, newStore, create}
 use Rattle.model.specs.Cut.{ifGone, keep, cutPairs, trim, cut, wentPairs, went, trimsPairs, trims, kept}
 use Rattle.model.specs.FullCheck.{chainEnds, fullCheck}
 use Rattle.model.specs.LeafWalk.{records, isLast, given, nextLeafOf}
-use Rattle.model.specs.Lookup.{foundIn, tryFindRow}
+use Rattle.model.specs.Lookup.{foundIn, findInTree, tryFindRow}
 use Rattle.model.specs.Prune.{moved, trimmed, trimAll, copyAll, pruneTree, against, entryEnd, scanLeaf, spoilt, scan, ranOut, before, atLast, copiesFrom, rootCopies, pruneWith, pruneScanned, pruneRoot, pruneCheckpointPrefix}
 use Rattle.model.specs.Reading.{endFits, passes, visits, rootVisits, firstBad, entries, inPairs, nodes, occ, nextRow, checked, descend, rootLeaf, lastNotAbove}
 use Rattle.model.specs.Refusals.{headerOk}
@@ -17,5 +17,5 @@ use Rattle.cases.specs.Run.{walkAnswers, shapes, run, answersFrom, expec
 use Rattle.cases.specs.Table.{table}
 
 pub starred : answersFrom [] table ≡ expected table
-unfolding appendStart roomFrom room firsts past chainSound taken fresh topOf endOver newPath hang raised splitRoot appendAt appendTo insertRowPage chained newStore create ifGone keep cutPairs trim cut wentPairs went trimsPairs trims kept chainEnds fullCheck records isLast given nextLeafOf foundIn tryFindRow moved trimmed trimAll copyAll pruneTree against entryEnd scanLeaf spoilt scan ranOut before atLast copiesFrom rootCopies pruneWith pruneScanned pruneRoot pruneCheckpointPrefix endFits passes visits rootVisits firstBad entries inPairs nodes occ nextRow checked descend rootLeaf lastNotAbove headerOk firstLow releasedWords destroy destroyEmpty pairsFrom rising firstRow lastRow meets endSound sound emptyRoot rootSound level next last overPairs base part put emptied added copyFrom copied freed freeAll fill walkAnswers shapes run answersFrom
+unfolding appendStart roomFrom room firsts past chainSound taken fresh topOf endOver newPath hang raised splitRoot appendAt appendTo insertRowPage chained newStore create ifGone keep cutPairs trim cut wentPairs went trimsPairs trims kept chainEnds fullCheck records isLast given nextLeafOf foundIn findInTree tryFindRow moved trimmed trimAll copyAll pruneTree against entryEnd scanLeaf spoilt scan ranOut before atLast copiesFrom rootCopies pruneWith pruneScanned pruneRoot pruneCheckpointPrefix endFits passes visits rootVisits firstBad entries inPairs nodes occ nextRow checked descend rootLeaf lastNotAbove headerOk firstLow releasedWords destroy destroyEmpty pairsFrom rising firstRow lastRow meets endSound sound emptyRoot rootSound level next last overPairs base part put emptied added copyFrom copied freed freeAll fill walkAnswers shapes run answersFrom
 starred = refl

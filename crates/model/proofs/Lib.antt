@@ -4,3 +4,5 @@ pub mod Sound
 pub mod Frame
 pub mod Once
 pub mod Look
+pub mod Place
+pub mod Lookup

@@ -113,7 +113,7 @@ module _ {K : Type 0} (Q : K → ℕ → Limit → Type 0) (below : (x : K) (r :
             (λ e. rw (e, over-look f q k, before k₂ ks b (g .1) (leb-false _ _ e), orElse-nothing) (here (k .1) (k .0) (Below (k₂ .0)) (g .0) h))
 
 module _ (C P q : ℕ) where
-  all-begins : (h : ℕ) (t : Level (suc h)) (r : ℕ) (b : Limit) → AllSound C P (suc h) t r b → Begins r (t .pairs)
+  pub all-begins : (h : ℕ) (t : Level (suc h)) (r : ℕ) (b : Limit) → AllSound C P (suc h) t r b → Begins r (t .pairs)
   unfolding AllSound
   all-begins h t r b g = sound-begins C h t r b (g .1)
 
@@ -122,7 +122,7 @@ module _ (C P q : ℕ) where
       (r : ℕ) (b : Limit) (ks : List (ℕ × K)) → Begins r ks → allPairs Q ks b → q < r → look (overPairs f ks b) q ≡ nothing
   pairs-left Q below f left r b _ (begins x ks) g h = before Q below f q left (r, x) ks b g h
 
-  all-left : (h : ℕ) (t : Level h) (r : ℕ) (b : Limit) → AllSound C P h t r b → q < r → look (entries h t r b) q ≡ nothing
+  pub all-left : (h : ℕ) (t : Level h) (r : ℕ) (b : Limit) → AllSound C P h t r b → q < r → look (entries h t r b) q ≡ nothing
   unfolding AllSound entries look hit
   all-left zero x r b g l = rw (lt-leb r q l)
   all-left (suc h) t r b g l =
@@ -134,7 +134,7 @@ module _ (C P q : ℕ) where
       (r e : ℕ) (ks : List (ℕ × K)) → Begins r ks → allPairs Q ks (Below e) → e ≤ q → look (overPairs f ks (Below e)) q ≡ nothing
   pairs-right Q below f left right r e _ (begins x ks) g h = behind Q below f q left right (r, x) ks e g h
 
-  all-right : (h : ℕ) (t : Level h) (r e : ℕ) → AllSound C P h t r (Below e) → e ≤ q → look (entries h t r (Below e)) q ≡ nothing
+  pub all-right : (h : ℕ) (t : Level h) (r e : ℕ) → AllSound C P h t r (Below e) → e ≤ q → look (entries h t r (Below e)) q ≡ nothing
   unfolding AllSound entries look hit under Under
   all-right zero x r e g l = rw (le-ltb q e l, le-leb r q (omega arith))
   all-right (suc h) t r e g l =

@@ -5,6 +5,7 @@ use mathlib.Core.List.{List, [], _∷_, _++_}
 use mathlib.Core.Path.{_≡_, refl, sym, ap, subst}
 use mathlib.Core.Logic.{_≢_}
 use native.Mathlib.Omega.{arith}
+use lib.ListN.{length}
 use lib.Dec.{ltb, eqb}
 use borrow.Author.Tests.{eqb-true, eqb-false, ltb-true, ltb-false, ne-eqb}
 use Rattle.model.specs.Words.{part, height, count, start, end, row, child, freeMark}
@@ -12,7 +13,7 @@ use Rattle.model.specs.Tree.{Limit, Open, Below, Level, pairsFrom, level
 use Rattle.model.specs.Reading.{occ, inPairs, nodes}
 use Rattle.model.proofs.Tests.{by-test}
 use Rattle.model.proofs.Sound.{below-trans, sound-below, chain, Begins, begins, sound-begins, last-below, sound-ends, soundly}
-use Rattle.model.proofs.Frame.{occ-append, occ-self, nodes-self, occ-nil}
+use Rattle.model.proofs.Frame.{length-pairs, occ-append, occ-self, nodes-self, occ-nil}
 
 -- s is the start of node m, which stands in a child: then s lies in the child's rows
 module _ {K : Type 0} (Q : K → ℕ → Limit → Type 0) (below : (x : K) (r : ℕ) (b : Limit) → Q x r b → Under r b) (ns : K → List ℕ) (m s : ℕ)
@@ -43,6 +44,9 @@ pub occ-other : (m n : ℕ) → m ≢ n → occ m (n ∷ []) ≡ 0
 unfolding occ
 occ-other m n d = rw (ne-eqb m n d)
 
+begins-some : {K : Type 0} {r : ℕ} {ps : List (ℕ × K)} → Begins r ps → 0 < length ps
+begins-some (begins x ps) = omega arith
+
 module _ (C P : ℕ) (w : List ℕ) where
   -- a good child that the words hold
   unfoldable pub Held : (g : ℕ) → Level g → ℕ → Limit → Type 0
@@ -66,6 +70,10 @@ module _ (C P : ℕ) (w : List ℕ) where
   pub first-child : (g n r : ℕ) (b : Limit) → AllSound C P (suc g) (level C w (suc g) n) r b → Begins r (pairsFrom C w (level C w g) n 0 (count C w n))
   unfolding AllSound level
   first-child g n r b q = sound-begins C g (level C w (suc g) n) r b (q .1)
+
+  -- and there are some
+  pub some-pairs : (g n r : ℕ) (b : Limit) → AllSound C P (suc g) (level C w (suc g) n) r b → 0 < count C w n
+  some-pairs g n r b q = omega (arith, begins-some (first-child g n r b q), length-pairs C w (level C w g) n 0 (count C w n))
 
   pub the-pairs : (g n r : ℕ) (b : Limit) → AllSound C P (suc g) (level C w (suc g) n) r b → allPairs (Held g) (pairsFrom C w (level C w g) n 0 (count C w n)) (last g (end C w n) b)
   unfolding AllSound level

@@ -6,8 +6,8 @@ use mathlib.Core.Path.{_≡_, refl, sym, ap, _∙_, subst}
 use native.Mathlib.Omega.{arith}
 use lib.ListN.{length}
 use lib.Dec.{T, leb, ltb, eqb, ltb→lt, leb→le, eqb→eq, eqb-refl, le→leb}
-use Rattle.model.specs.Words.{rowLimit}
-use Rattle.model.specs.Tree.{Node, Limit, Open, Below, rising, firstRow, lastRow, meets, endSound, sound, Level, next, last, allPairs, Under, AllSound}
+use Rattle.model.specs.Words.{part, height, count, start, end, row, child, rowLimit}
+use Rattle.model.specs.Tree.{Node, pairsFrom, nodeWith, nodeAt, Limit, Open, Below, rising, firstRow, lastRow, meets, endSound, sound, Level, next, last, allPairs, Under, AllSound}
 use Rattle.model.proofs.Tests.{and-l, and-r, both}
 
 -- rows from r on rise, and the last one passes z
@@ -72,6 +72,46 @@ module _ {K : Type 0} (C h : ℕ) (t : Node K) (r : ℕ) (b : Limit) where
       let five : T (eqb (t .start) (firstRow (t .pairs))) = subst (λ (x : ℕ). T (eqb (t .start) x)) (q .begin ∙ sym (i .2)) (eqb-refl (t .start)) in
       let six : T (eqb (t .start) r) = subst (λ (x : ℕ). T (eqb (t .start) x)) (q .begin) (eqb-refl (t .start)) in
       search (both, one, i, le→leb (length (t .pairs)) C (q .many), five, six) depth 9
+
+-- The test does not look at what the numbers lead to -------------------------------------------------------
+
+unfoldable mapped : {K : Type 0} → (ℕ → K) → List (ℕ × ℕ) → List (ℕ × K)
+mapped f [] = []
+mapped f (p ∷ ps) = (p .0, f (p .1)) ∷ mapped f ps
+
+module _ {K : Type 0} (f : ℕ → K) where
+  mapped-length : (ps : List (ℕ × ℕ)) → length (mapped f ps) ≡ length ps
+  unfolding mapped
+  mapped-length [] = refl
+  mapped-length (p ∷ ps) = ap suc (mapped-length ps)
+
+  mapped-rising : (ps : List (ℕ × ℕ)) → rising (mapped f ps) ≡ rising ps
+  unfolding mapped rising
+  mapped-rising [] = refl
+  mapped-rising (p ∷ []) = refl
+  mapped-rising (p ∷ q ∷ ps) = ap (λ (t : Bool). ltb (p .0) (q .0) && t) (mapped-rising (q ∷ ps))
+
+  mapped-first : (ps : List (ℕ × ℕ)) → firstRow (mapped f ps) ≡ firstRow ps
+  unfolding mapped firstRow
+  mapped-first [] = refl
+  mapped-first (p ∷ ps) = refl
+
+  mapped-last : (ps : List (ℕ × ℕ)) → lastRow (mapped f ps) ≡ lastRow ps
+  unfolding mapped lastRow
+  mapped-last [] = refl
+  mapped-last (p ∷ []) = refl
+  mapped-last (p ∷ q ∷ ps) = mapped-last (q ∷ ps)
+
+  pairs-mapped : (C : ℕ) (w : List ℕ) (n i k : ℕ) → pairsFrom C w f n i k ≡ mapped f (pairsFrom C w (λ (x : ℕ). x) n i k)
+  unfolding pairsFrom mapped
+  pairs-mapped C w n i zero = refl
+  pairs-mapped C w n i (suc k) = ap (λ (l : List (ℕ × K)). (row C w n i, f (child C w n i)) ∷ l) (pairs-mapped C w n (i + 1) k)
+
+  pub sound-at : (C : ℕ) (w : List ℕ) (h n r : ℕ) (b : Limit) → sound C h (nodeWith C w f n) r b ≡ sound C h (nodeAt C w n) r b
+  unfolding sound
+  sound-at C w h n r b =
+      let ps = pairsFrom C w (λ (x : ℕ). x) n 0 (count C w n) in
+      rw (pairs-mapped C w n 0 (count C w n), mapped-length ps, mapped-rising ps, mapped-first ps, mapped-last ps)
 
 -- the pairs of a sound node begin at its row
 pub data Begins {K : Type 0} (r : ℕ) : List (ℕ × K) → Type 0 where

@@ -15,14 +15,14 @@ foundIn C w q (leaf n b) =
     pick (ltb 0 (count C w n) && ltb q (end C w n)) (result (child C w n (toRow C w q n) ∷ [])) (result [])
 
 -- "Lookup: path 2." Below the root's start no entry qualifies, and the path is the root.
-unfoldable pub tryFindRow : List ℕ → ℕ → Answer
-tryFindRow w q =
-    let C = capacity w in
-    let P = pool w in
-    let n = root w in
+unfoldable pub findInTree : ℕ → ℕ → List ℕ → ℕ → ℕ → Answer
+findInTree C P w n q =
     let inside = foundIn C w q (rootLeaf (toRow C w q) C P w n) in
     let outside = pick (rootSound C w n) (result []) (refused 2 n) in
-    whenOpen w (λ (a : Answer). a) (pick (ltb q (start C w n)) outside inside)
+    pick (ltb q (start C w n)) outside inside
+
+unfoldable pub tryFindRow : List ℕ → ℕ → Answer
+tryFindRow w q = whenOpen w (λ (a : Answer). a) (findInTree (capacity w) (pool w) w (root w) q)
 
 -- The same by the entries alone: the page of the entry that holds row q, or none --------------------------
 
