@@ -18,6 +18,10 @@ pub place : (C P n j : ℕ) → n < P → j < nodeSize C → base C n + j < stor
 unfolding base
 place C P n j h l = omega (arith, mul-le-mul-right (4 + 2 * C) h)
 
+-- a product that fits: nodes before n, and their words
+pub scaled : (C n : ℕ) → C ≤ 4094 → n ≤ 65535 → n * nodeSize C ≤ 536862720
+scaled C n h l = omega (arith, mul-le-mul-right (4 + 2 * C) l, mul-le-mul-left 65535 h)
+
 pub base-high : (C n : ℕ) → 8 ≤ base C n
 unfolding base
 base-high C n = omega arith
