@@ -6,3 +6,4 @@ pub mod Once
 pub mod Look
 pub mod Place
 pub mod Lookup
+pub mod Paths

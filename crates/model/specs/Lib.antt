@@ -3,6 +3,7 @@ pub mod Words
 pub mod Tree
 pub mod Reading
 pub mod Refusals
+pub mod Paths
 pub mod WellFormed
 pub mod Create
 pub mod Lookup
