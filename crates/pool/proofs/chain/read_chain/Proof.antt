@@ -1,0 +1,125 @@
+use borrow.Author.Needs.{needs}
+use Prim.Native.Nat.{_-_, _≤_}
+use mathlib.Core.Path.{_≡_, refl, sym, ap, _∙_}
+use mathlib.Core.Bool.{false≢true}
+use mathlib.Core.List.{[], _++_}
+use native.Mathlib.Omega.{arith}
+use native.Mathlib.Nat.{sub-zero}
+use lib.ListN.{length, length-set}
+use Rattle.model.specs.Append.{chainSound, firsts, past}
+use Rattle.pool.specs.Write.{listed}
+use Rattle.pool.proofs.Turns.{turn, stop}
+use Rattle.pool.proofs.Links.{Link, listed-set, linked, broken, firsts-turn, firsts-done}
+use Rattle.pool.proofs.chain.read_chain.Statement.{statement}
+use Rattle.pool.proofs.chain.read_chain.Tie as tie
+
+abbrev Inv-loop : tie.InvT-loop
+Inv-loop l s k nodes₀ n₀ i₀ nodes n i =
+    (i ≤ k) × (length nodes ≡ 32) × (chainSound (l .capacity) (l .pool) s (n₀ .0) [] k ≡ chainSound (l .capacity) (l .pool) s (n .0) (listed nodes 0 i) (k - i))
+    × (firsts (l .capacity) s (n₀ .0) k ≡ listed nodes 0 i ++ firsts (l .capacity) s (n .0) (k - i)) × (past (l .capacity) s (n₀ .0) k ≡ past (l .capacity) s (n .0) (k - i))
+
+abbrev μ-loop : tie.MeasureT-loop
+μ-loop l s k nodes₀ n₀ i₀ nodes n i = k - i
+
+loop-holds : tie.Need-loop-holds Inv-loop μ-loop
+unfolding listed
+loop-holds c = (omega arith, refl, rw sub-zero, rw sub-zero, rw sub-zero)
+
+returns : tie.Need-returns Inv-loop μ-loop
+returns c =
+    let t = c .before .before .before in
+    broken _ _ _ _ _ _ _ (t .loop-test .taken) (t .before .loop .inv .2) (λ p. omega (arith, p .inside))
+
+part-requires : tie.Need-part-requires Inv-loop μ-loop
+part-requires c κs = search needs
+
+returns-2 : tie.Need-returns-2 Inv-loop μ-loop
+returns-2 c =
+    let d = c .before in
+    let t = d .before .before .before .before in
+    broken _ _ _ _ _ _ _ (t .loop-test .taken) (t .before .loop .inv .2) (λ p. c .if2 .taken (d .part .ensures ∙ p .marked))
+
+part-requires-2 : tie.Need-part-requires-2 Inv-loop μ-loop
+part-requires-2 c κs = search needs
+
+returns-3 : tie.Need-returns-3 Inv-loop μ-loop
+returns-3 c =
+    let d = c .before .before in
+    let t = d .before .before .before .before .before .before in
+    broken _ _ _ _ _ _ _ (t .loop-test .taken) (t .before .loop .inv .2) (λ p. omega (arith, d .part2 .ensures, p .next))
+
+holds-requires : tie.Need-holds-requires Inv-loop μ-loop
+holds-requires c κs = search needs
+
+returns-4 : tie.Need-returns-4 Inv-loop μ-loop
+returns-4 c =
+    let d = c .before in
+    let t = d .before .before .before .before .before .before .before .before .before in
+    broken _ _ _ _ _ _ _ (t .loop-test .taken) (t .before .loop .inv .2) (λ p. false≢true (rw (c .if4 .taken) at (d .holds .ensures) ∙ p .new))
+
+mul-nodes : tie.Need-mul-nodes Inv-loop μ-loop
+mul-nodes c = search needs
+
+array-set-from-nodes : tie.Need-array-set-from-nodes Inv-loop μ-loop
+array-set-from-nodes c = search needs
+
+add-i : tie.Need-add-i Inv-loop μ-loop
+add-i c = search needs
+
+loop-less : tie.Need-loop-less Inv-loop μ-loop
+loop-less c = search needs
+
+loop-again : tie.Need-loop-again Inv-loop μ-loop
+unfolding past
+loop-again c =
+    let d = c .before in
+    let e = d .before .before .before in
+    let f = e .before .before in
+    let t = f .before .before .before .before in
+    let l = t .before .loop in
+    let seen = listed (l .nodes) 0 (l .i) in
+    let next = e .part2 .ensures in
+    let more = listed-set (l .nodes) (l .i) (l .n) (omega arith) in
+    let p : Link _ _ _ (l .n .0) seen =
+    record {
+      inside = f .before .if1 .left;
+      marked = sym (f .part .ensures) ∙ e .before .if2 .left;
+      next = omega (arith, next);
+      new = sym (rw (c .if4 .left) at (d .holds .ensures));
+    } in (
+      omega arith,
+      length-set (l .nodes) (l .i) (l .n) ∙ l .inv .1,
+      l .inv .2 ∙ linked _ _ _ _ _ _ _ (t .loop-test .taken) p ∙ rw (more, next),
+      l .inv .3 ∙ firsts-turn _ _ _ _ _ seen (t .loop-test .taken) ∙ rw (more, next),
+      l .inv .4 ∙ turn (past _ _ _) _ _ (t .loop-test .taken) ∙ rw next,
+    )
+
+returns-5 : tie.Need-returns-5 Inv-loop μ-loop
+unfolding chainSound past
+returns-5 c =
+    let l = c .before .loop in
+    let all : l .i ≡ c .before .before .before .args .k = omega arith in (
+      sym (l .inv .2 ∙ stop (chainSound _ _ _ _ _) _ _ (c .loop-test .left)),
+      λ z. (ap (listed (l .nodes) 0) (sym all) ∙ sym (l .inv .3 ∙ firsts-done _ _ _ _ _ (listed (l .nodes) 0 (l .i)) (c .loop-test .left)), sym (l .inv .4 ∙ stop (past _ _ _) _ _ (c .loop-test .left))),
+    )
+
+pub read-chain-spec : {M : Type 1} → statement M
+read-chain-spec =
+    tie.close
+    (tie.spec
+    Inv-loop
+    μ-loop
+    loop-holds
+    returns
+    part-requires
+    returns-2
+    part-requires-2
+    returns-3
+    holds-requires
+    returns-4
+    mul-nodes
+    array-set-from-nodes
+    add-i
+    loop-less
+    loop-again
+    returns-5)

@@ -1,0 +1,4 @@
+// Writing a store: a word, a header, an entry, a whole node, the free chain.
+
+pub mod chain;
+pub mod write;

@@ -1,0 +1,3 @@
+pub mod Valid
+pub mod Rest
+pub mod Moves

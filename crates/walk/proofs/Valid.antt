@@ -1,0 +1,58 @@
+-- What a valid path says of its last position.
+use Prim.Native.Nat.{ℕ, zero, suc, _+_, _-_, _<_, _≤_, zero-le}
+use mathlib.Core.List.{List, [], _∷_}
+use mathlib.Core.Path.{_≡_, refl, sym, subst}
+use native.Mathlib.Omega.{arith}
+use lib.ListN.{getD}
+use lib.Dec.{ltb}
+use Rattle.model.specs.Words.{pick, part, height, count, row}
+use Rattle.model.specs.Tree.{Limit, Open, Below}
+use Rattle.model.specs.Paths.{noPosition, stack, trail, lastOf, above}
+use Rattle.model.specs.declared.path.Position.{Position}
+use Rattle.model.specs.declared.path.Path.{Path}
+use Rattle.model.proofs.Paths.{stack-pop, stack-none}
+use Rattle.walk.specs.Left.{bound, Valid, lowest, ValidPath}
+
+module _ (C P : ℕ) (w : List ℕ) where
+  pub valid-depth : (l : List Position) (d h : ℕ) → Valid C P w h (stack l d) → h + d ≤ 32
+  unfolding Valid stack
+  valid-depth l zero h v = omega arith
+  valid-depth l (suc d) h v = omega (arith, valid-depth l d (suc h) (v .above))
+
+  pub record Top (p : Path) : Type 0 where
+    pub inside : lastOf p .node .0 < P
+    pub within : lastOf p .index ≤ count C w (lastOf p .node .0)
+    pub narrow : count C w (lastOf p .node .0) ≤ C
+    pub over : Valid C P w (suc (height C w (lastOf p .node .0))) (above p)
+    pub deep : height C w (lastOf p .node .0) + p .depth ≤ 32
+
+  -- a valid path's height is what its last node says
+  pub fit-valid : (h : ℕ) (st : List Position) → Valid C P w h st → Valid C P w (lowest C w st) st
+  unfolding lowest Valid
+  fit-valid h [] v = zero-le
+  fit-valid h (p ∷ up) v = subst (λ (k : ℕ). Valid C P w k (p ∷ up)) (sym (v .high)) v
+
+  pub valid-path : (q : Path) (h : ℕ) (st : List Position) → trail q ≡ st → Valid C P w h st → ValidPath C P w q
+  unfolding ValidPath
+  valid-path q h st e v = rw e (fit-valid h st v)
+
+  pub valid-top : (p : Path) → 0 < p .depth → ValidPath C P w p → Top p
+  unfolding ValidPath lowest Valid
+  valid-top p z v =
+      let u = rw (stack-pop (p .positions) (p .depth) z) at v in
+      record {
+        inside = u .inside;
+        within = u .within;
+        narrow = u .narrow;
+        over = u .above;
+        deep = valid-depth (p .positions) (p .depth) (height C w (lastOf p .node .0)) (rw (stack-pop (p .positions) (p .depth) z) u) }
+
+pub bound-pop : (C : ℕ) (w : List ℕ) (l : List Position) (d : ℕ) → 0 < d
+    → bound C w (stack l d)
+    ≡ pick (ltb (getD l (d - 1) noPosition .index) (count C w (getD l (d - 1) noPosition .node .0))) (Below (row C w (getD l (d - 1) noPosition .node .0) (getD l (d - 1) noPosition .index))) (bound C w (stack l (d - 1)))
+unfolding bound
+bound-pop C w l d z = rw (stack-pop l d z)
+
+pub bound-none : (C : ℕ) (w : List ℕ) (l : List Position) (d : ℕ) → d ≤ 0 → bound C w (stack l d) ≡ Open
+unfolding bound
+bound-none C w l d z = rw (stack-none l d (omega arith))
