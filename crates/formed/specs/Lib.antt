@@ -1,0 +1,3 @@
+pub mod Well
+pub mod Formed
+pub mod Holds
