@@ -7,3 +7,4 @@ pub mod Look
 pub mod Place
 pub mod Lookup
 pub mod Paths
+pub mod Writes
