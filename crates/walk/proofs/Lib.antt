@@ -1,3 +1,4 @@
 pub mod Valid
 pub mod Rest
 pub mod Moves
+pub mod Tests

@@ -1,1 +1,4 @@
-// The walk over a tree, in reading order.
+// The walk over a tree in reading order, and the paths to one leaf.
+
+pub mod step;
+pub mod turn;

@@ -1,0 +1,1 @@
+// One step of the walk, over a path by value.

@@ -1,0 +1,98 @@
+// The parts of a turn of the walk.
+
+ghost use mathlib.Core.Path.{_≡_};
+ghost use Prim.Native.Nat.{_+_, _-_, _≤_, _<_};
+ghost use Rattle.model.specs.Words.{child, count, height};
+ghost use Rattle.model.specs.Reading.{endFits, nextRow};
+ghost use Rattle.node.specs.Layout.{Fits};
+ghost use Rattle.node.specs.Test.{limitOf};
+ghost use Rattle.walk.specs.Turn.{entering, enteredOf, hasChild, passTest};
+use model::id::NodeNo;
+use model::id::RowID;
+use model::node::RowPageIndexNodeHeader;
+use node::layout::Layout;
+use node::test;
+use node::test::Limit;
+use node::test::NodeTest;
+
+// Whether a branch may end so: at NONE, or off the right edge where the next entry begins.
+pub fn end_fits(height: u64, next: Limit, end: RowID) -> bool
+    ensures { λ r. ⌜ r ≡ endFits height (limitOf next) (end .0) ⌝ }
+{
+    if height == 0 {
+        return true;
+    }
+    if end.0 == RowPageIndexNodeHeader::NONE {
+        return true;
+    }
+    match next {
+        Limit::Open => false,
+        Limit::Below(row) => end.0 == row.0,
+    }
+}
+
+// The node test; with ends, a branch's end is looked at too.
+pub fn pass(l: Layout, s: &[u64], ends: bool, n: NodeNo, height: u64, row: RowID, next: Limit) -> NodeTest
+    requires { ⌜ Fits l (now s) ⌝ }
+    requires { ⌜ n .0 < l .pool ⌝ }
+    ensures { λ r. ⌜ r ≡ passTest ends (l .capacity) (l .pool) (now (s .entry)) (n .0) height (row .0) (limitOf next) ⌝ }
+{
+    if !ends {
+        return test::test_node(l, s, n, height, row, next);
+    }
+    let end = l.part(s, n, 3);
+    let fits = end_fits(height, next, RowID(end));
+    if !fits {
+        return NodeTest::Unsound;
+    }
+    test::test_node(l, s, n, height, row, next)
+}
+
+// Whether node n is a branch with an entry i.
+pub fn has_child(l: Layout, s: &[u64], n: NodeNo, i: u64) -> bool
+    requires { ⌜ Fits l (now s) ⌝ }
+    requires { ⌜ n .0 < l .pool ⌝ }
+    ensures { λ r. ⌜ r ≡ hasChild (l .capacity) (now (s .entry)) (n .0) i ⌝ }
+{
+    let height = l.part(s, n, 0);
+    if height == 0 {
+        return false;
+    }
+    let count = l.part(s, n, 1);
+    i < count
+}
+
+// What is next for entry i of node n.
+pub fn next_row(l: Layout, s: &[u64], n: NodeNo, i: u64, next: Limit) -> Limit
+    requires { ⌜ Fits l (now s) ⌝ }
+    requires { ⌜ (n .0 < l .pool) × (i < count (l .capacity) (now s) (n .0)) × (count (l .capacity) (now s) (n .0) ≤ l .capacity) ⌝ }
+    ensures { λ r. ⌜ limitOf r ≡ nextRow (l .capacity) (now (s .entry)) (n .0) i (limitOf next) ⌝ }
+{
+    let count = l.part(s, n, 1);
+    if i + 1 < count {
+        return Limit::Below(l.row(s, n, i + 1));
+    }
+    next
+}
+
+// A child entered, with what is next for it and the first of its child numbers out of range; or unsound.
+pub enum Entered {
+    Child(NodeNo, Limit, u64),
+    Bad(NodeNo),
+}
+
+// Child i of branch n, whose number is in range.
+pub fn enter(l: Layout, s: &[u64], ends: bool, n: NodeNo, i: u64, next: Limit) -> Entered
+    requires { ⌜ Fits l (now s) ⌝ }
+    requires { ⌜ (n .0 < l .pool) × (0 < height (l .capacity) (now s) (n .0)) × (i < count (l .capacity) (now s) (n .0)) × (count (l .capacity) (now s) (n .0) ≤ l .capacity) × (child (l .capacity) (now s) (n .0) i < l .pool) ⌝ }
+    ensures { λ r. ⌜ enteredOf r ≡ entering ends (l .capacity) (l .pool) (now (s .entry)) (n .0) i (limitOf next) ⌝ }
+{
+    let height = l.part(s, n, 0);
+    let row = l.row(s, n, i);
+    let child = l.child(s, n, i);
+    let beyond = next_row(l, s, n, i, next);
+    match pass(l, s, ends, child, height - 1, row, beyond) {
+        NodeTest::Sound(first) => Entered::Child(child, beyond, first),
+        NodeTest::Unsound => Entered::Bad(child),
+    }
+}
