@@ -2,3 +2,4 @@ pub mod Valid
 pub mod Rest
 pub mod Moves
 pub mod Tests
+pub mod Branch

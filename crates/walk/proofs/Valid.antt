@@ -19,12 +19,20 @@ module _ (C P : ℕ) (w : List ℕ) where
   valid-depth l zero h v = omega arith
   valid-depth l (suc d) h v = omega (arith, valid-depth l d (suc h) (v .above))
 
-  pub record Top (p : Path) : Type 0 where
-    pub inside : lastOf p .node .0 < P
-    pub within : lastOf p .index ≤ count C w (lastOf p .node .0)
-    pub narrow : count C w (lastOf p .node .0) ≤ C
-    pub over : Valid C P w (suc (height C w (lastOf p .node .0))) (above p)
-    pub deep : height C w (lastOf p .node .0) + p .depth ≤ 32
+  -- position d - 1, where the nodes from it on have height h
+  pub record Top (l : List Position) (d h : ℕ) : Type 0 where
+    pub inside : getD l (d - 1) noPosition .node .0 < P
+    pub high : height C w (getD l (d - 1) noPosition .node .0) ≡ h
+    pub within : getD l (d - 1) noPosition .index ≤ count C w (getD l (d - 1) noPosition .node .0)
+    pub narrow : count C w (getD l (d - 1) noPosition .node .0) ≤ C
+    pub over : Valid C P w (suc h) (stack l (d - 1))
+    pub deep : h + d ≤ 32
+
+  pub top : (l : List Position) (d h : ℕ) → 0 < d → Valid C P w h (stack l d) → Top l d h
+  unfolding Valid
+  top l d h z v =
+      let u = rw (stack-pop l d z) at v in
+      record { inside = u .inside; high = u .high; within = u .within; narrow = u .narrow; over = u .above; deep = valid-depth l d h v }
 
   -- a valid path's height is what its last node says
   pub fit-valid : (h : ℕ) (st : List Position) → Valid C P w h st → Valid C P w (lowest C w st) st
@@ -36,16 +44,11 @@ module _ (C P : ℕ) (w : List ℕ) where
   unfolding ValidPath
   valid-path q h st e v = rw e (fit-valid h st v)
 
-  pub valid-top : (p : Path) → 0 < p .depth → ValidPath C P w p → Top p
-  unfolding ValidPath lowest Valid
+  pub valid-top : (p : Path) → 0 < p .depth → ValidPath C P w p → Top (p .positions) (p .depth) (height C w (lastOf p .node .0))
+  unfolding ValidPath lowest
   valid-top p z v =
-      let u = rw (stack-pop (p .positions) (p .depth) z) at v in
-      record {
-        inside = u .inside;
-        within = u .within;
-        narrow = u .narrow;
-        over = u .above;
-        deep = valid-depth (p .positions) (p .depth) (height C w (lastOf p .node .0)) (rw (stack-pop (p .positions) (p .depth) z) u) }
+      top (p .positions) (p .depth) (height C w (lastOf p .node .0)) z
+      (subst (λ (st : List Position). Valid C P w (lowest C w st) (trail p)) (stack-pop (p .positions) (p .depth) z) v)
 
 pub bound-pop : (C : ℕ) (w : List ℕ) (l : List Position) (d : ℕ) → 0 < d
     → bound C w (stack l d)
