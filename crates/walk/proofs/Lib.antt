@@ -3,3 +3,5 @@ pub mod Rest
 pub mod Moves
 pub mod Tests
 pub mod Branch
+pub mod InPlace
+pub mod Outs

@@ -1,0 +1,28 @@
+-- Lookup in a store is lookup in the ledger that it holds.
+use Prim.Native.Nat.{ℕ}
+use mathlib.Core.List.{List, [], _∷_}
+use mathlib.Core.Bool.{_&&_}
+use mathlib.Core.Path.{_≡_, refl, ap, _∙_}
+use lib.Dec.{leb, ltb}
+use Rattle.model.specs.Words.{pick, capacity, pool, root}
+use Rattle.model.specs.Reading.{Entry}
+use Rattle.model.specs.Refusals.{Answer, result}
+use Rattle.model.specs.WellFormed.{WellFormed}
+use Rattle.model.specs.Lookup.{under, entryFind, findInTree, tryFindRow}
+use Rattle.model.specs.Ledger.{Range, Ledger, findFrom, ledgerFind}
+use Rattle.model.proofs.Lookup.{find-entries}
+use Rattle.formed.specs.Holds.{entriesFrom, Holds}
+use Rattle.formed.proofs.Opens.{goes-on}
+
+find-from : (q s : ℕ) (gs : List Range) → entryFind (entriesFrom s gs) q ≡ findFrom s gs q
+unfolding entryFind entriesFrom findFrom under
+find-from q s [] = refl
+find-from q s (g ∷ gs) = ap (λ (a : Answer). pick (leb s q && ltb q (g .end)) (result (g .page ∷ [])) a) (find-from q (g .end) gs)
+
+pub find-law : (w : List ℕ) (l : Ledger) → Holds w l → (q : ℕ) → tryFindRow w q ≡ ledgerFind l q
+unfolding tryFindRow ledgerFind WellFormed
+find-law w l H q =
+    goes-on w (H .formed) (λ (a : Answer). a) (findInTree (capacity w) (pool w) w (root w) q)
+    ∙ find-entries (capacity w) (pool w) w q (root w) (H .formed .sound)
+    ∙ ap (λ (es : List Entry). entryFind es q) (H .entries)
+    ∙ find-from q (l .start) (l .ranges)

@@ -1,0 +1,14 @@
+pub mod Pairs
+pub mod Clean
+pub mod Ends
+pub mod Chains
+pub mod Rooted
+pub mod Counting
+pub mod Bridge
+pub mod Opens
+pub mod Check
+pub mod Linked
+pub mod Entries
+pub mod FindLaw
+pub mod Few
+pub mod Tally

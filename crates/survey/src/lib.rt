@@ -1,0 +1,131 @@
+// A reading of the whole tree: its first unsound node, or how many nodes, leaves and entries it has.
+
+ghost use mathlib.Core.Path.{_≡_};
+ghost use mathlib.Core.List.{[], _∷_};
+ghost use Prim.Native.Nat.{_+_, _-_, _≤_, _<_};
+ghost use Rattle.model.specs.Words.{count, height};
+ghost use Rattle.model.specs.Reading.{rootVisits};
+ghost use Rattle.model.specs.Paths.{entered};
+ghost use Rattle.node.specs.Layout.{Fits};
+ghost use Rattle.walk.specs.Left.{Valid, rest};
+ghost use Rattle.walk.specs.Turn.{outOf};
+ghost use Rattle.survey.specs.Tally.{counted, more, noCounts, tally};
+use model::id::NodeNo;
+use model::path::Path;
+use model::path::Position;
+use node::layout::Layout;
+use node::test;
+use node::test::Limit;
+use node::test::NodeTest;
+use walk::turn;
+use walk::turn::Entered;
+
+// What a reading has counted. A sound tree has at most 65,535 nodes, so the counts of one never reach Counts::MOST.
+pub struct Counts {
+    pub nodes: u64,
+    pub leaves: u64,
+    pub entries: u64,
+}
+
+impl Counts {
+    pub const MOST: u64 = 1 << 32;
+}
+
+pub enum Survey {
+    Unsound(NodeNo),
+    Counted(Counts),
+}
+
+// k and some more, up to what is told apart.
+pub fn add(k: u64, some: u64) -> u64
+    requires { ⌜ some ≤ 4094 ⌝ }
+    ensures { λ r. ⌜ r ≡ more k some ⌝ }
+{
+    if k < Counts::MOST {
+        k + some
+    } else {
+        k
+    }
+}
+
+// Node n counted.
+pub fn count_node(l: Layout, s: &[u64], n: NodeNo, k: Counts) -> Counts
+    requires { ⌜ Fits l (now s) ⌝ }
+    requires { ⌜ (n .0 < l .pool) × (count (l .capacity) (now s) (n .0) ≤ l .capacity) ⌝ }
+    ensures { λ r. ⌜ r ≡ counted (l .capacity) (now (s .entry)) (n .0) k ⌝ }
+{
+    let nodes = add(k.nodes, 1);
+    let height = l.part(s, n, 0);
+    if height != 0 {
+        return Counts {
+            nodes,
+            leaves: k.leaves,
+            entries: k.entries,
+        };
+    }
+    let leaves = add(k.leaves, 1);
+    let count = l.part(s, n, 1);
+    let entries = add(k.entries, count);
+    Counts {
+        nodes,
+        leaves,
+        entries,
+    }
+}
+
+// What is left below a node that was entered, with the counts so far. The path is stored to in place: a copy of it
+// for each node would cost more than the node's test.
+pub fn survey_below(l: Layout, s: &[u64], ends: bool, root: NodeNo, first: u64, start: Counts) -> Survey
+    requires { ⌜ Fits l (now s) ⌝ }
+    requires { ⌜ Valid (l .capacity) (l .pool) (now s) (height (l .capacity) (now s) (root .0)) (entered (root .0) ∷ []) ⌝ }
+    requires { ⌜ first ≡ outOf (l .capacity) (l .pool) (now s) (height (l .capacity) (now s) (root .0)) (root .0) ⌝ }
+    ensures { λ r. ⌜ r ≡ tally (l .capacity) (now (s .entry)) (rest ends (l .capacity) (l .pool) (now (s .entry)) (height (l .capacity) (now (s .entry)) (root .0)) (entered (root .0) ∷ [])) start ⌝ }
+{
+    let mut path = Path {
+        positions: [Position {
+            node: root,
+            index: 0,
+        }; 32],
+        depth: 1,
+    };
+    let mut nexts = [Limit::Open; 32];
+    let mut firsts = [first; 32];
+    let mut counts = start;
+    while 0 < path.depth {
+        let depth = path.depth;
+        let at = depth - 1;
+        let top = path.positions[at];
+        let node = top.node;
+        let index = top.index;
+        let more = turn::has_child(l, s, node, index);
+        if !more {
+            path.depth = at;
+        } else {
+            let out = firsts[at];
+            if out <= index {
+                return Survey::Unsound(node);
+            }
+            let next = nexts[at];
+            match turn::enter(l, s, ends, node, index, next) {
+                Entered::Bad(n) => {
+                    return Survey::Unsound(n);
+                }
+                Entered::Child(child, beyond, inner) => {
+                    path.positions[at] = Position {
+                        node,
+                        index: index + 1,
+                    };
+                    path.positions[depth] = Position {
+                        node: child,
+                        index: 0,
+                    };
+                    nexts[depth] = beyond;
+                    firsts[depth] = inner;
+                    path.depth = depth + 1;
+                    counts = count_node(l, s, child, counts);
+                }
+            }
+        }
+    }
+    Survey::Counted(counts)
+}
