@@ -129,3 +129,31 @@ pub fn survey_below(l: Layout, s: &[u64], ends: bool, root: NodeNo, first: u64, 
     }
     Survey::Counted(counts)
 }
+
+// The whole tree from the root of an open store.
+pub fn survey_tree(l: Layout, s: &[u64], ends: bool, root: NodeNo) -> Survey
+    requires { ⌜ Fits l (now s) ⌝ }
+    requires { ⌜ root .0 < l .pool ⌝ }
+    ensures { λ r. ⌜ r ≡ tally (l .capacity) (now (s .entry)) (rootVisits ends (l .capacity) (l .pool) (now (s .entry)) (root .0)) noCounts ⌝ }
+{
+    let none = Counts {
+        nodes: 0,
+        leaves: 0,
+        entries: 0,
+    };
+    let empty = test::is_empty_root(l, s, root);
+    if empty {
+        return Survey::Counted(count_node(l, s, root, none));
+    }
+    let h = l.header(s, root);
+    if !h.is_in_height() {
+        return Survey::Unsound(root);
+    }
+    match turn::pass(l, s, ends, root, h.height, h.start_row_id, Limit::Open) {
+        NodeTest::Unsound => Survey::Unsound(root),
+        NodeTest::Sound(first) => {
+            let counts = count_node(l, s, root, none);
+            survey_below(l, s, ends, root, first, counts)
+        }
+    }
+}

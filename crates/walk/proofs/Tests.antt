@@ -83,3 +83,19 @@ module _ (ends : Bool) (C P : ℕ) (w : List ℕ) (n i : ℕ) (b : Limit) where
       by-test (passes ends C (height C w n - 1) (nodeAt C w (child C w n i)) (row C w n i) (nextRow C w n i b))
       (λ t. let q : Sound (outOf C P w (height C w n - 1) (child C w n i)) ≡ Unsound = rw t at e in let z : _≡_ {A = ℕ} 0 1 = cc in absurd (omega arith))
       (λ t. rw t)
+
+-- what the test of a node says of it
+module _ (ends : Bool) (C P : ℕ) (w : List ℕ) (n h r : ℕ) (b : Limit) where
+  pub pass-sound : (first : ℕ) → passTest ends C P w n h r b ≡ Sound first → (passes ends C h (nodeAt C w n) r b ≡ true) × (first ≡ outOf C P w h n)
+  unfolding passTest
+  pass-sound first e =
+      by-test (passes ends C h (nodeAt C w n) r b)
+      (λ t. let q : Sound (outOf C P w h n) ≡ Sound first = rw t at e in (t, cc))
+      (λ t. let q : Unsound ≡ Sound first = rw t at e in let z : _≡_ {A = ℕ} 0 1 = cc in absurd (omega arith))
+
+  pub pass-unsound : passTest ends C P w n h r b ≡ Unsound → passes ends C h (nodeAt C w n) r b ≡ false
+  unfolding passTest
+  pass-unsound e =
+      by-test (passes ends C h (nodeAt C w n) r b)
+      (λ t. let q : Sound (outOf C P w h n) ≡ Unsound = rw t at e in let z : _≡_ {A = ℕ} 0 1 = cc in absurd (omega arith))
+      (λ t. t)

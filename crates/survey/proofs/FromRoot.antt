@@ -1,0 +1,46 @@
+-- The reading from the root, by cases of the root.
+use Prim.Native.Nat.{ℕ, zero, suc, _+_, _-_, _<_, _≤_}
+use mathlib.Core.List.{List, [], _∷_, _++_, append-nil}
+use mathlib.Core.Bool.{Bool, true, false}
+use mathlib.Core.Path.{_≡_, refl, sym, ap, _∙_}
+use native.Mathlib.Omega.{arith}
+use lib.Dec.{leb, ltb}
+use borrow.Author.Tests.{le-leb}
+use Rattle.model.specs.Words.{pick, part, height, count, start, maxHeight}
+use Rattle.model.specs.Tree.{Limit, Open, nodeAt, emptyRoot, level}
+use Rattle.model.specs.Reading.{Visit, Enter, Leave, Bad, passes, visits, rootVisits}
+use Rattle.model.specs.Paths.{entered}
+use Rattle.walk.specs.Left.{bound, rest, Valid}
+use Rattle.walk.proofs.Rest.{child-bad, child-good, valid-entered}
+use Rattle.survey.specs.Tally.{counted, tally}
+use Rattle.survey.specs.declared.Counts.{Counts}
+use Rattle.survey.specs.declared.Survey.{Survey}
+use Rattle.survey.specs.declared.Survey.the-variants.{Unsound, Counted}
+
+module _ (ends : Bool) (C P : ℕ) (w : List ℕ) (n : ℕ) (k : Counts) where
+  pub from-empty : emptyRoot C w n ≡ true → tally C w (rootVisits ends C P w n) k ≡ Counted (counted C w n k)
+  unfolding rootVisits tally
+  from-empty e = rw e
+
+  module _ (e : emptyRoot C w n ≡ false) where
+    pub from-high : leb (height C w n) maxHeight ≡ false → tally C w (rootVisits ends C P w n) k ≡ Unsound (record { 0 = n })
+    unfolding rootVisits tally
+    from-high h = rw (e, h)
+
+    module _ (h : leb (height C w n) maxHeight ≡ true) (inside : n < P) where
+      pub from-bad : passes ends C (height C w n) (nodeAt C w n) (start C w n) Open ≡ false → tally C w (rootVisits ends C P w n) k ≡ Unsound (record { 0 = n })
+      unfolding rootVisits tally
+      from-bad s = rw (e, h, child-bad ends C P w (height C w n) n n (start C w n) Open inside s)
+
+      pub from-good : passes ends C (height C w n) (nodeAt C w n) (start C w n) Open ≡ true
+          → tally C w (rootVisits ends C P w n) k ≡ tally C w (rest ends C P w (height C w n) (entered n ∷ [])) (counted C w n k)
+      unfolding rootVisits tally bound rest
+      from-good s =
+          let q : visits ends C P (suc (height C w n)) n (level C w (suc (height C w n)) n) (start C w n) Open ≡ Enter n ∷ rest ends C P w (height C w n) (entered n ∷ []) =
+              sym (append-nil (visits ends C P (suc (height C w n)) n (level C w (suc (height C w n)) n) (start C w n) Open)) ∙ child-good ends C P w (height C w n) n n (start C w n) [] inside s in
+          rw (e, h, q)
+
+pub root-valid : (ends : Bool) (C P : ℕ) (w : List ℕ) (n : ℕ) → height C w n ≤ maxHeight → n < P → passes ends C (height C w n) (nodeAt C w n) (start C w n) Open ≡ true
+    → Valid C P w (height C w n) (entered n ∷ [])
+unfolding Valid
+root-valid ends C P w n h i s = valid-entered ends C P w n (height C w n) (start C w n) Open [] i s (omega arith)
