@@ -1,0 +1,116 @@
+-- The call on a well-formed store: its first checks, and that the rest goes by the entries.
+use Prim.Native.Nat.{ℕ, suc, _+_, _<_, _≤_}
+use mathlib.Core.List.{List, [], _∷_, _++_}
+use mathlib.Core.Bool.{true, false, _||_}
+use mathlib.Core.Path.{_≡_, sym, ap, _∙_, subst}
+use native.Mathlib.Omega.{arith}
+use lib.ListN.{length, length-append}
+use lib.Dec.{leb, ltb, eqb, ltb→lt}
+use borrow.Author.Tests.{le-ltb, le-leb, eq-eqb, ne-eqb}
+use Rattle.model.specs.Words.{pick, root, freeHead, freeCount, storeLength, height, count, start, maxHeight}
+use Rattle.model.specs.Tree.{nodeAt, Open, sound, emptyRoot, rootSound, Level, level}
+use Rattle.model.specs.Reading.{visits, entries, nodes}
+use Rattle.model.specs.WellFormed.{Chain, EmptyRoot}
+use Rattle.model.specs.Refusals.{refused, Outcome, headerOk}
+use Rattle.model.specs.Prune.{Scan, on, scan, ranOut, pruneScanned, pruneRoot, pruneCheckpointPrefix}
+use Rattle.model.proofs.Tests.{by-test, is-true}
+use Rattle.model.proofs.Sound.{sound-at}
+use Rattle.model.proofs.Frame.{length-pairs, occ-append}
+use Rattle.model.proofs.Once.{own}
+use Rattle.model.proofs.Lookup.{not-empty, is-empty}
+use Rattle.formed.specs.Well.{Well}
+use Rattle.formed.specs.Formed.{Blank, Whole, blank, held, treeOf, Formed}
+use Rattle.cut.proofs.Rests.{well-sound}
+use Rattle.cut.proofs.Check.{run, scan-sound}
+use Rattle.cut.proofs.Few.{most}
+
+chain-low : (C P : ℕ) (w : List ℕ) (n : ℕ) (ns : List ℕ) → Chain C P w n ns → n ≤ P
+unfolding Chain
+chain-low C P w n [] c = omega (arith, c)
+chain-low C P w n (m ∷ ms) c = omega (arith, c .0, c .1)
+
+-- nothing changes
+abbrev refuse : List ℕ → ℕ → ℕ → Outcome
+refuse w a d = record { answer = refused a d; words = w }
+
+module _ (C P : ℕ) (w : List ℕ) (h r : ℕ) (ns : List ℕ) (formed : Formed C P w h r ns) where
+  abbrev tree : Level (suc h)
+  tree = treeOf C w h
+
+  -- tree nodes and free nodes are at most P together
+  pub room : freeCount w + length (nodes (suc h) tree) ≤ P
+  room =
+      let all = nodes (suc h) tree ++ ns in
+      omega (arith, formed .free, length-append (nodes (suc h) tree) ns,
+        most all P
+        (λ m p. omega (arith, occ-append m (nodes (suc h) tree) ns, rw (le-ltb m P p) at (formed .cover m)))
+        (λ m. by-test (ltb m P) (λ t. omega (arith, occ-append m (nodes (suc h) tree) ns, rw t at (formed .cover m))) (λ t. omega (arith, occ-append m (nodes (suc h) tree) ns, rw t at (formed .cover m)))))
+
+  root-in : Whole C P h tree r → root w < P
+  unfolding Well level
+  root-in (blank b) = b .inside
+  root-in (held g) = ltb→lt (root w) P (g .0)
+
+  pub root-inside : root w < P
+  root-inside = root-in (formed .whole)
+
+  header-ok : headerOk w ≡ true
+  unfolding headerOk
+  header-ok =
+      let d = formed .header in
+      rw (formed .capacity-is, formed .pool-is, le-leb 2 C (d .cap-low), le-leb C 4094 (d .cap-high), le-leb 1 P (d .pool-low), le-leb P 65535 (d .pool-high),
+        eq-eqb (length w) (storeLength C P) (d .long), le-leb (root w) P (omega (arith, root-inside)), le-leb (freeHead w) P (chain-low C P w (freeHead w) ns (formed .chain)), le-leb (freeCount w) P (omega (arith, room)))
+
+  is-open : eqb (root w) P ≡ false
+  is-open = ne-eqb (root w) P (λ e. omega (arith, root-inside))
+
+  module _ (none : Blank P h tree r) where
+    empty-root : EmptyRoot C w (root w)
+    unfolding level
+    empty-root =
+        record {
+          leaf = none .high;
+          none = sym (length-pairs C w (level C w h) (root w) 0 (count C w (root w))) ∙ ap length (none .none);
+          low = omega (arith, none .low, none .begin);
+          ends = none .ends }
+
+    empty-start : start C w (root w) ≡ r
+    unfolding level
+    empty-start = none .begin
+
+  module _ (well : Well C P (suc h) tree r Open) where
+    root-own : (height C w (root w) ≡ h) × (start C w (root w) ≡ r)
+    root-own = own C P w h (root w) r Open (well-sound C P (suc h) tree r Open well)
+
+    not-blank : emptyRoot C w (root w) ≡ false
+    not-blank = not-empty C P w h (root w) r Open (well-sound C P (suc h) tree r Open well)
+
+    root-ok : rootSound C w (root w) ≡ true
+    unfolding rootSound Well level
+    root-ok =
+        let n = root w in
+        let here : sound C h (nodeAt C w n) r Open ≡ true = sym (sound-at (level C w h) C w h n r Open) ∙ is-true (sound C h tree r Open) (well .1) in
+        let there : sound C (height C w n) (nodeAt C w n) (start C w n) Open ≡ true =
+            subst (λ (k : ℕ). sound C k (nodeAt C w n) (start C w n) Open ≡ true) (sym (root-own .0)) (subst (λ (k : ℕ). sound C h (nodeAt C w n) k Open ≡ true) (sym (root-own .1)) here) in
+        rw (not-blank, there, le-leb (height C w n) maxHeight (omega (arith, root-own .0, formed .high)))
+
+  module _ (s e : ℕ) (ids : List ℕ) where
+    -- on an empty root
+    pub asked-blank : Blank P h tree r
+        → pruneCheckpointPrefix w s e ids ≡ pick (eqb (length ids) 0 || leb e s) (refuse w 7 0) (pick (eqb s r) (refuse w 11 0) (refuse w 8 r))
+    unfolding pruneCheckpointPrefix rootSound
+    asked-blank none = rw (header-ok, formed .pool-is, is-open, formed .capacity-is, is-empty C w (root w) (empty-root none), empty-start none)
+
+    module _ (well : Well C P (suc h) tree r Open) where
+      by-entries : pruneRoot C P w (root w) h e ids tree ≡ pruneScanned C P w (root w) h e tree (ranOut e (run e (entries (suc h) tree r Open) (on ids 0 0)))
+      unfolding pruneRoot level
+      by-entries =
+          ap (λ (x : Scan). pruneScanned C P w (root w) h e tree (ranOut e x))
+          (subst (λ (k : ℕ). scan C w e (visits false C P (suc h) (root w) tree k Open) (on ids 0 0) ≡ run e (entries (suc h) tree r Open) (on ids 0 0)) (sym (root-own well .1))
+            (scan-sound C P w e h (root w) (root w) r Open (on ids 0 0) (well-sound C P (suc h) tree r Open well)))
+
+      pub asked-held : pruneCheckpointPrefix w s e ids
+          ≡ pick (eqb (length ids) 0 || leb e s) (refuse w 7 0)
+            (pick (eqb s r) (pruneScanned C P w (root w) h e tree (ranOut e (run e (entries (suc h) tree r Open) (on ids 0 0)))) (refuse w 8 r))
+      unfolding pruneCheckpointPrefix
+      asked-held = rw (header-ok, formed .pool-is, is-open, formed .capacity-is, root-ok well, not-blank well, root-own well .0, root-own well .1, by-entries)

@@ -1,0 +1,96 @@
+// The path from the root to a leaf, tested node by node.
+
+ghost use mathlib.Core.Path.{_≡_};
+ghost use mathlib.Core.Bool.{true};
+ghost use Prim.Native.Nat.{ℕ, _+_, _-_, _≤_, _<_};
+ghost use Rattle.model.specs.Tree.{Open, nodeAt, sound};
+ghost use Rattle.model.specs.Reading.{descend, rootLeaf};
+ghost use Rattle.model.specs.Words.{count};
+ghost use Rattle.node.specs.Layout.{Fits};
+ghost use Rattle.node.specs.Test.{limitOf};
+ghost use Rattle.descend.specs.Reached.{chooser, reachedOf};
+use crate::place;
+use model::id::NodeNo;
+use model::id::RowID;
+use node::layout::Layout;
+use node::test;
+use node::test::Limit;
+use walk::turn;
+
+// Where the path goes in each branch: by the last entry whose row is not above the sought one, or by the last entry.
+pub enum Toward {
+    Row(RowID),
+    Right,
+}
+
+// The first unsound node of a path; or the leaf reached, and what is next for it.
+pub enum Reached {
+    Unsound(NodeNo),
+    Leaf(NodeNo, Limit),
+}
+
+// The entry of a sound node n that the path follows.
+pub fn choose(l: Layout, s: &[u64], n: NodeNo, height: u64, row: RowID, next: Limit, toward: Toward) -> u64
+    requires { ⌜ Fits l (now s) ⌝ }
+    requires { ⌜ (n .0 < l .pool) × (sound (l .capacity) height (nodeAt (l .capacity) (now s) (n .0)) (row .0) (limitOf next) ≡ true) ⌝ }
+    ensures is { λ r. ⌜ r ≡ chooser (l .capacity) (now (s .entry)) toward (n .0) ⌝ }
+    ensures below { λ r. ⌜ r < count (l .capacity) (now (s .entry)) (n .0) ⌝ }
+{
+    let count = l.part(s, n, 1);
+    match toward {
+        Toward::Row(q) => place::place_of(l, s, n, count, q),
+        Toward::Right => count - 1,
+    }
+}
+
+// From node root of this height, which no entry leads to.
+pub fn find_below(l: Layout, s: &[u64], root: NodeNo, height: u64, row: RowID, toward: Toward) -> Reached
+    requires { ⌜ Fits l (now s) ⌝ }
+    ensures { λ r. ⌜ reachedOf r ≡ descend (chooser (l .capacity) (now (s .entry)) toward) (l .capacity) (l .pool) (now (s .entry)) height (root .0) (root .0) (row .0) Open ⌝ }
+{
+    let mut parent = root;
+    let mut n = root;
+    let mut h = height;
+    let mut r = row;
+    let mut next = Limit::Open;
+    while 0 < h {
+        if l.pool <= n.0 {
+            return Reached::Unsound(parent);
+        }
+        let good = test::is_sound(l, s, n, h, r, next);
+        if !good {
+            return Reached::Unsound(n);
+        }
+        let i = choose(l, s, n, h, r, next, toward);
+        next = turn::next_row(l, s, n, i, next);
+        r = l.row(s, n, i);
+        parent = n;
+        n = l.child(s, n, i);
+        h -= 1;
+    }
+    if l.pool <= n.0 {
+        return Reached::Unsound(parent);
+    }
+    let good = test::is_sound(l, s, n, 0, r, next);
+    if !good {
+        return Reached::Unsound(n);
+    }
+    Reached::Leaf(n, next)
+}
+
+// From the root of an open store.
+pub fn find_leaf(l: Layout, s: &[u64], root: NodeNo, toward: Toward) -> Reached
+    requires { ⌜ Fits l (now s) ⌝ }
+    requires { ⌜ root .0 < l .pool ⌝ }
+    ensures { λ r. ⌜ reachedOf r ≡ rootLeaf (chooser (l .capacity) (now (s .entry)) toward) (l .capacity) (l .pool) (now (s .entry)) (root .0) ⌝ }
+{
+    let empty = test::is_empty_root(l, s, root);
+    if empty {
+        return Reached::Leaf(root, Limit::Open);
+    }
+    let h = l.header(s, root);
+    if !h.is_in_height() {
+        return Reached::Unsound(root);
+    }
+    find_below(l, s, root, h.height, h.start_row_id, toward)
+}
