@@ -1,0 +1,46 @@
+-- One step of a path to a leaf.
+use Prim.Native.Nat.{ℕ, zero, suc, _+_, _-_, _<_, _≤_}
+use mathlib.Core.List.{List}
+use mathlib.Core.Bool.{Bool, true, false}
+use mathlib.Core.Path.{_≡_, refl, sym, ap, _∙_, subst}
+use native.Mathlib.Omega.{arith}
+use lib.Dec.{leb, ltb}
+use borrow.Author.Tests.{lt-ltb, le-ltb}
+use Rattle.model.specs.Words.{pick, part, height, count, start, row, child, maxHeight}
+use Rattle.model.specs.Tree.{Limit, Open, nodeAt, sound, emptyRoot}
+use Rattle.model.specs.Reading.{Reached, unsound, leaf, nextRow, checked, descend, rootLeaf}
+
+module _ (f : ℕ → ℕ) (C P : ℕ) (w : List ℕ) (m n r : ℕ) (b : Limit) where
+  -- a number out of range; an unsound node
+  pub far : (h : ℕ) → P ≤ n → descend f C P w h m n r b ≡ unsound m
+  unfolding descend checked
+  far zero l = rw (le-ltb n P l)
+  far (suc h) l = rw (le-ltb n P l)
+
+  pub bad : (h : ℕ) → n < P → sound C h (nodeAt C w n) r b ≡ false → descend f C P w h m n r b ≡ unsound n
+  unfolding descend checked
+  bad zero l s = rw (lt-ltb n P l, s)
+  bad (suc h) l s = rw (lt-ltb n P l, s)
+
+  pub ends : (h : ℕ) → h ≤ 0 → n < P → sound C 0 (nodeAt C w n) r b ≡ true → descend f C P w h m n r b ≡ leaf n b
+  unfolding descend checked
+  ends zero z l s = rw (lt-ltb n P l, s)
+  ends (suc h) z l s = absurd (omega arith)
+
+  pub down : (h i : ℕ) → 0 < h → n < P → sound C h (nodeAt C w n) r b ≡ true → i ≡ f n → descend f C P w h m n r b ≡ descend f C P w (h - 1) n (child C w n i) (row C w n i) (nextRow C w n i b)
+  unfolding descend checked
+  down zero i z l s e = absurd (omega arith)
+  down (suc h) i z l s e = let d : suc h - 1 ≡ h = omega arith in rw (lt-ltb n P l, s, e, d)
+
+module _ (f : ℕ → ℕ) (C P : ℕ) (w : List ℕ) (n : ℕ) where
+  pub root-empty : emptyRoot C w n ≡ true → rootLeaf f C P w n ≡ leaf n Open
+  unfolding rootLeaf
+  root-empty e = rw e
+
+  pub root-high : emptyRoot C w n ≡ false → leb (height C w n) maxHeight ≡ false → rootLeaf f C P w n ≡ unsound n
+  unfolding rootLeaf
+  root-high e h = rw (e, h)
+
+  pub root-path : emptyRoot C w n ≡ false → leb (height C w n) maxHeight ≡ true → rootLeaf f C P w n ≡ descend f C P w (height C w n) n n (start C w n) Open
+  unfolding rootLeaf
+  root-path e h = rw (e, h)

@@ -1,0 +1,17 @@
+pub mod Shape
+pub mod Lists
+pub mod Last
+pub mod Hung
+pub mod Parted
+pub mod Fresh
+pub mod Hang
+pub mod Split
+pub mod Taken
+pub mod Edge
+pub mod Few
+pub mod Ends
+pub mod Keeps
+pub mod Opened
+pub mod Verdict
+pub mod Insert
+pub mod Create
