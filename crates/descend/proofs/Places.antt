@@ -45,3 +45,11 @@ module _ (C : ℕ) (w : List ℕ) (n k : ℕ) (some : 1 ≤ k) (up : T (rising (
     above-from high (inl h) m l b = absurd (omega arith)
     above-from high (inr h) m l b =
         ⊎-elim (λ (e : high ≡ m). subst (λ (x : ℕ). q < row C w n x) e h) (λ (g : high < m). omega (arith, h, rise high m g b)) (eq-or-lt-of-le l)
+
+-- it is one of the places
+pub place-below : (C : ℕ) (w : List ℕ) (n q k : ℕ) → 1 ≤ k → lastNotAbove C w q n k < k
+unfolding lastNotAbove
+place-below C w n q zero h = absurd (omega arith)
+place-below C w n q (suc zero) h = by-test (leb (row C w n 0) q) (λ t. rw t (omega arith)) (λ t. rw t (omega arith))
+place-below C w n q (suc (suc k)) h =
+    by-test (leb (row C w n (suc k)) q) (λ t. rw t (omega arith)) (λ t. rw t (omega (arith, place-below C w n q (suc k) (omega arith))))

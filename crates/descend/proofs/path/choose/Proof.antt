@@ -1,38 +1,56 @@
 use borrow.Author.Needs.{needs}
+use mathlib.Core.Path.{_≡_, refl, sym, ap, _∙_, subst}
+use native.Mathlib.Omega.{arith}
+use Prim.Native.Nat.{ℕ, _-_, _<_}
+use lib.Dec.{T}
+use Rattle.model.specs.Words.{part, count}
+use Rattle.model.specs.Tree.{rising, pairsFrom}
+use Rattle.model.specs.Reading.{lastNotAbove}
+use Rattle.model.proofs.Tests.{holds}
+use Rattle.node.specs.Test.{limitOf}
+use Rattle.node.proofs.Rows.{facts, sound-if}
+use Rattle.descend.specs.Reached.{chooser}
+use Rattle.descend.proofs.Places.{place-below}
 use Rattle.descend.proofs.path.choose.Statement.{statement}
 use Rattle.descend.proofs.path.choose.Tie as tie
-use Rattle.descend.proofs.path.choose.Reads as reads
-use Rattle.descend.proofs.path.choose.Lts as lts
-use Rattle.descend.proofs.place.place_of.Reads as place-of-reads
-use Rattle.node.proofs.layout.Layout.part.Reads as part-reads
 
--- src/path.rt:39:9
 part-requires : tie.Need-part-requires
 part-requires c κs = search needs
 
--- src/path.rt:41:21
 enum-known-toward : tie.Need-enum-known-toward
 enum-known-toward c = search needs
 
--- src/path.rt:41:27
 place-of-requires : tie.Need-place-of-requires
-place-of-requires c κs = ?
+place-of-requires c κs =
+    let a = c .before .before .before .before .before .args in
+    let f = facts (a .l .capacity) (a .s .now) (a .n .0) (a .height) (a .row .0) (limitOf (a .next)) (c .before .before .before .before .before .pre .1 .1) in
+    let up = sym (sound-if (a .l .capacity) (a .s .now) (a .n .0) (a .height) (a .row .0) (limitOf (a .next)) f) ∙ c .before .before .before .before .before .pre .1 .1 in
+    (c .before .before .before .before .before .pre .0, (c .before .before .before .before .before .pre .1 .0, omega (arith, f .some, c .before .before .before .part .ensures), omega (arith, f .many, c .before .before .before .part .ensures), rw (c .before .before .before .part .ensures) (holds _ up)))
 
--- src/path.rt:42:26
 enum-told : tie.Need-enum-told
 enum-told c = search needs
 
--- src/path.rt:42:26
 sub-result : tie.Need-sub-result
-sub-result c = ?
+sub-result c =
+    let a = c .before .before .before .before .args in
+    let f = facts (a .l .capacity) (a .s .now) (a .n .0) (a .height) (a .row .0) (limitOf (a .next)) (c .before .before .before .before .pre .1 .1) in
+    let up = sym (sound-if (a .l .capacity) (a .s .now) (a .n .0) (a .height) (a .row .0) (limitOf (a .next)) f) ∙ c .before .before .before .before .pre .1 .1 in
+    omega (arith, f .some, c .before .before .part .ensures)
 
--- src/path.rt:33:1
 returns : tie.Need-returns
-returns c = ?
+returns c =
+    let a = c .before .before .before .before .before .before .args in
+    let f = facts (a .l .capacity) (a .s .now) (a .n .0) (a .height) (a .row .0) (limitOf (a .next)) (c .before .before .before .before .before .before .pre .1 .1) in
+    let up = sym (sound-if (a .l .capacity) (a .s .now) (a .n .0) (a .height) (a .row .0) (limitOf (a .next)) f) ∙ c .before .before .before .before .before .before .pre .1 .1 in
+    let e = c .place-of .ensures ∙ ap (lastNotAbove (a .l .capacity) (a .s .now) (c .before .before .toward .given .0 .0 .0) (a .n .0)) (c .before .before .before .before .part .ensures) in
+    (rw (c .before .before .toward .given .1) e, omega (arith, e, place-below (a .l .capacity) (a .s .now) (a .n .0) (c .before .before .toward .given .0 .0 .0) (count (a .l .capacity) (a .s .now) (a .n .0)) (f .some)))
 
--- src/path.rt:33:1
 returns-2 : tie.Need-returns-2
-returns-2 c = ?
+returns-2 c =
+    let a = c .before .before .before .before .args in
+    let f = facts (a .l .capacity) (a .s .now) (a .n .0) (a .height) (a .row .0) (limitOf (a .next)) (c .before .before .before .before .pre .1 .1) in
+    let up = sym (sound-if (a .l .capacity) (a .s .now) (a .n .0) (a .height) (a .row .0) (limitOf (a .next)) f) ∙ c .before .before .before .before .pre .1 .1 in
+    (rw (c .enum-told .given .1) (ap (λ (x : ℕ). x - 1) (c .before .before .part .ensures)), omega (arith, f .some, c .before .before .part .ensures))
 
 pub choose-spec : {M : Type 1} → statement M
 choose-spec =

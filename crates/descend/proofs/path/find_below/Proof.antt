@@ -1,78 +1,86 @@
+use borrow.Author.Needs.{needs}
+use mathlib.Core.Bool.{true, false}
+use mathlib.Core.Path.{_≡_, refl, sym, ap, _∙_, subst}
+use native.Mathlib.Omega.{arith}
+use Prim.Native.Nat.{ℕ, _-_, _<_}
+use borrow.Author.Tests.{not-true, not-false}
+use Rattle.model.specs.Words.{part, count, row, child}
+use Rattle.model.specs.Reading.{descend, nextRow}
+use Rattle.node.specs.Test.{limitOf}
+use Rattle.node.proofs.Rows.{facts}
+use Rattle.descend.specs.Reached.{chooser, reachedOf}
+use Rattle.descend.proofs.Down.{far, bad, ends, down}
 use Rattle.descend.proofs.path.find_below.Statement.{statement}
 use Rattle.descend.proofs.path.find_below.Tie as tie
-use Rattle.descend.proofs.path.find_below.Reads as reads
-use Rattle.descend.proofs.path.find_below.Lts as lts
-use Rattle.descend.proofs.path.choose.Reads as choose-reads
-use Rattle.node.proofs.layout.Layout.child.Reads as child-reads
-use Rattle.node.proofs.layout.Layout.row.Reads as row-reads
-use Rattle.node.proofs.test.is_sound.Reads as is-sound-reads
-use Rattle.walk.proofs.turn.next_row.Reads as next-row-reads
 
 abbrev Inv-loop : tie.InvT-loop
-Inv-loop l s height toward parent₀ n₀ h₀ r₀ next₀ parent n h r next = ?
+Inv-loop l s height toward parent₀ n₀ h₀ r₀ next₀ parent n h r next =
+    descend (chooser (l .capacity) s toward) (l .capacity) (l .pool) s h₀ (parent₀ .0) (n₀ .0) (r₀ .0) (limitOf next₀)
+    ≡ descend (chooser (l .capacity) s toward) (l .capacity) (l .pool) s h (parent .0) (n .0) (r .0) (limitOf next)
 
 abbrev μ-loop : tie.MeasureT-loop
-μ-loop l s height toward parent₀ n₀ h₀ r₀ next₀ parent n h r next = ?
+μ-loop l s height toward parent₀ n₀ h₀ r₀ next₀ parent n h r next = h
 
--- src/path.rt:56:5
 loop-holds : tie.Need-loop-holds Inv-loop μ-loop
-loop-holds c = ?
+loop-holds c = refl
 
--- src/path.rt:58:13
 returns : tie.Need-returns Inv-loop μ-loop
-returns c = ?
+returns c = let a = c .before .before .before .before .before .before .args in sym (c .before .before .before .before .loop .inv ∙ far (chooser (a .l .capacity) (a .s .now) (a .toward)) (a .l .capacity) (a .l .pool) (a .s .now) (c .before .before .before .before .loop .parent .0) (c .before .before .before .before .loop .n .0) (c .before .before .before .before .loop .r .0) (limitOf (c .before .before .before .before .loop .next)) (c .before .before .before .before .loop .h) (c .if1 .taken))
 
--- src/path.rt:60:13
 is-sound-requires : tie.Need-is-sound-requires Inv-loop μ-loop
-is-sound-requires c κs = ?
+is-sound-requires c κs = search needs
 
--- src/path.rt:62:13
 returns-2 : tie.Need-returns-2 Inv-loop μ-loop
-returns-2 c = ?
+returns-2 c = let a = c .before .before .before .before .before .before .before .before .args in sym (c .before .before .before .before .before .before .loop .inv ∙ bad (chooser (a .l .capacity) (a .s .now) (a .toward)) (a .l .capacity) (a .l .pool) (a .s .now) (c .before .before .before .before .before .before .loop .parent .0) (c .before .before .before .before .before .before .loop .n .0) (c .before .before .before .before .before .before .loop .r .0) (limitOf (c .before .before .before .before .before .before .loop .next)) (c .before .before .before .before .before .before .loop .h) (c .before .before .if1 .left) (sym (c .before .is-sound .ensures) ∙ not-true _ (c .if2 .taken)))
 
--- src/path.rt:64:13
 choose-requires : tie.Need-choose-requires Inv-loop μ-loop
-choose-requires c κs = ?
+choose-requires c κs = (c .before .before .before .before .before .before .before .before .pre, (c .before .before .if1 .left, sym (c .before .is-sound .ensures) ∙ not-false _ (c .if2 .left)))
 
--- src/path.rt:65:9
 next-row-requires : tie.Need-next-row-requires Inv-loop μ-loop
-next-row-requires c κs = ?
+next-row-requires c κs =
+    let a = c .before .before .before .before .before .before .before .before .before .args in
+    let f = facts (a .l .capacity) (a .s .now) (c .before .before .before .before .before .before .before .loop .n .0) (c .before .before .before .before .before .before .before .loop .h) (c .before .before .before .before .before .before .before .loop .r .0) (limitOf (c .before .before .before .before .before .before .before .loop .next)) (sym (c .before .before .is-sound .ensures) ∙ not-false _ (c .before .if2 .left)) in
+    (c .before .before .before .before .before .before .before .before .before .pre, (c .before .before .before .if1 .left, c .choose .ensures .1, f .many))
 
--- src/path.rt:66:9
 row-requires : tie.Need-row-requires Inv-loop μ-loop
-row-requires c κs = ?
+row-requires c κs =
+    let a = c .before .before .before .before .before .before .before .before .before .before .args in
+    let f = facts (a .l .capacity) (a .s .now) (c .before .before .before .before .before .before .before .before .loop .n .0) (c .before .before .before .before .before .before .before .before .loop .h) (c .before .before .before .before .before .before .before .before .loop .r .0) (limitOf (c .before .before .before .before .before .before .before .before .loop .next)) (sym (c .before .before .before .is-sound .ensures) ∙ not-false _ (c .before .before .if2 .left)) in
+    (c .before .before .before .before .before .before .before .before .before .before .pre, (c .before .before .before .before .if1 .left, omega (arith, f .many, c .before .choose .ensures .1)))
 
--- src/path.rt:68:9
 child-requires : tie.Need-child-requires Inv-loop μ-loop
-child-requires c κs = ?
+child-requires c κs =
+    let a = c .before .before .before .before .before .before .before .before .before .before .before .args in
+    let f = facts (a .l .capacity) (a .s .now) (c .before .before .before .before .before .before .before .before .before .loop .n .0) (c .before .before .before .before .before .before .before .before .before .loop .h) (c .before .before .before .before .before .before .before .before .before .loop .r .0) (limitOf (c .before .before .before .before .before .before .before .before .before .loop .next)) (sym (c .before .before .before .before .is-sound .ensures) ∙ not-false _ (c .before .before .before .if2 .left)) in
+    (c .before .before .before .before .before .before .before .before .before .before .before .pre, (c .before .before .before .before .before .if1 .left, omega (arith, f .many, c .before .before .choose .ensures .1)))
 
--- src/path.rt:69:9
 sub-h : tie.Need-sub-h Inv-loop μ-loop
-sub-h c = ?
+sub-h c = search needs
 
--- src/path.rt:56:5
 loop-less : tie.Need-loop-less Inv-loop μ-loop
-loop-less c = ?
+loop-less c = search needs
 
--- src/path.rt:56:5
 loop-again : tie.Need-loop-again Inv-loop μ-loop
-loop-again c = ?
+loop-again c =
+    let a = c .before .before .before .before .before .before .before .before .before .before .before .before .args in
+    c .before .before .before .before .before .before .before .before .before .before .loop .inv
+    ∙ down (chooser (a .l .capacity) (a .s .now) (a .toward)) (a .l .capacity) (a .l .pool) (a .s .now) (c .before .before .before .before .before .before .before .before .before .before .loop .parent .0) (c .before .before .before .before .before .before .before .before .before .before .loop .n .0) (c .before .before .before .before .before .before .before .before .before .before .loop .r .0) (limitOf (c .before .before .before .before .before .before .before .before .before .before .loop .next)) (c .before .before .before .before .before .before .before .before .before .before .loop .h) (c .before .before .before .choose .result) (c .before .before .before .before .before .before .before .before .before .loop-test .taken) (c .before .before .before .before .before .before .if1 .left) (sym (c .before .before .before .before .before .is-sound .ensures) ∙ not-false _ (c .before .before .before .before .if2 .left)) (c .before .before .before .choose .ensures .0)
+    ∙ rw (c .child .ensures, c .before .row .ensures, c .before .before .next-row .ensures)
 
--- src/path.rt:72:9
 returns-3 : tie.Need-returns-3 Inv-loop μ-loop
-returns-3 c = ?
+returns-3 c = let a = c .before .before .before .before .before .before .args in sym (c .before .before .before .before .loop .inv ∙ far (chooser (a .l .capacity) (a .s .now) (a .toward)) (a .l .capacity) (a .l .pool) (a .s .now) (c .before .before .before .before .loop .parent .0) (c .before .before .before .before .loop .n .0) (c .before .before .before .before .loop .r .0) (limitOf (c .before .before .before .before .loop .next)) (c .before .before .before .before .loop .h) (c .if3 .taken))
 
--- src/path.rt:74:9
 is-sound-requires-2 : tie.Need-is-sound-requires-2 Inv-loop μ-loop
-is-sound-requires-2 c κs = ?
+is-sound-requires-2 c κs = search needs
 
--- src/path.rt:76:9
 returns-4 : tie.Need-returns-4 Inv-loop μ-loop
-returns-4 c = ?
+returns-4 c =
+    let a = c .before .before .before .before .before .before .before .before .args in
+    let z : c .before .before .before .before .before .before .loop .h ≡ 0 = omega (arith, c .before .before .before .before .before .loop-test .left) in
+    sym (c .before .before .before .before .before .before .loop .inv ∙ bad (chooser (a .l .capacity) (a .s .now) (a .toward)) (a .l .capacity) (a .l .pool) (a .s .now) (c .before .before .before .before .before .before .loop .parent .0) (c .before .before .before .before .before .before .loop .n .0) (c .before .before .before .before .before .before .loop .r .0) (limitOf (c .before .before .before .before .before .before .loop .next)) (c .before .before .before .before .before .before .loop .h) (c .before .before .if3 .left) (rw z (sym (c .before .is-sound2 .ensures) ∙ not-true _ (c .if4 .taken))))
 
--- src/path.rt:47:1
 returns-5 : tie.Need-returns-5 Inv-loop μ-loop
-returns-5 c = ?
+returns-5 c = let a = c .before .before .before .before .before .before .before .before .args in sym (c .before .before .before .before .before .before .loop .inv ∙ ends (chooser (a .l .capacity) (a .s .now) (a .toward)) (a .l .capacity) (a .l .pool) (a .s .now) (c .before .before .before .before .before .before .loop .parent .0) (c .before .before .before .before .before .before .loop .n .0) (c .before .before .before .before .before .before .loop .r .0) (limitOf (c .before .before .before .before .before .before .loop .next)) (c .before .before .before .before .before .before .loop .h) (omega (arith, c .before .before .before .before .before .loop-test .left)) (c .before .before .if3 .left) (sym (c .before .is-sound2 .ensures) ∙ not-false _ (c .if4 .left)))
 
 pub find-below-spec : {M : Type 1} → statement M
 find-below-spec =

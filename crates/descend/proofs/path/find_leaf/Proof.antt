@@ -1,40 +1,45 @@
 use borrow.Author.Needs.{needs}
+use mathlib.Core.Bool.{true, false}
+use mathlib.Core.Path.{_≡_, refl, sym, ap, _∙_, subst}
+use borrow.Author.Tests.{not-true, not-false}
+use lib.Dec.{leb}
+use Rattle.model.specs.Words.{part, height, start, maxHeight}
+use Rattle.model.specs.Tree.{Open}
+use Rattle.model.specs.Reading.{descend}
+use Rattle.model.specs.declared.node.RowPageIndexNodeHeader.{RowPageIndexNodeHeader}
+use Rattle.descend.specs.Reached.{chooser}
+use Rattle.descend.proofs.Down.{root-empty, root-high, root-path}
 use Rattle.descend.proofs.path.find_leaf.Statement.{statement}
 use Rattle.descend.proofs.path.find_leaf.Tie as tie
-use Rattle.descend.proofs.path.find_leaf.Reads as reads
-use Rattle.descend.proofs.path.find_leaf.Lts as lts
-use Rattle.descend.proofs.path.find_below.Reads as find-below-reads
-use Rattle.model.proofs.node.RowPageIndexNodeHeader.is_in_height.Reads as is-in-height-reads
-use Rattle.node.proofs.layout.Layout.header.Reads as header-reads
-use Rattle.node.proofs.test.is_empty_root.Reads as is-empty-root-reads
 
--- src/path.rt:87:9
 is-empty-root-requires : tie.Need-is-empty-root-requires
 is-empty-root-requires c κs = search needs
 
--- src/path.rt:89:9
 returns : tie.Need-returns
-returns c = ?
+returns c = let a = c .before .before .before .args in sym (root-empty (chooser (a .l .capacity) (a .s .now) (a .toward)) (a .l .capacity) (a .l .pool) (a .s .now) (a .root .0) (sym (c .before .is-empty-root .ensures) ∙ c .if1 .taken))
 
--- src/path.rt:91:9
 header-requires : tie.Need-header-requires
 header-requires c κs = search needs
 
--- src/path.rt:92:9
 is-in-height-requires : tie.Need-is-in-height-requires
 is-in-height-requires c κs = search needs
 
--- src/path.rt:93:9
 returns-2 : tie.Need-returns-2
-returns-2 c = ?
+returns-2 c =
+    let a = c .before .before .before .before .before .before .args in
+    let lo : leb (height (a .l .capacity) (a .s .now) (a .root .0)) maxHeight ≡ false = sym (ap (λ (h : RowPageIndexNodeHeader). leb (h .height) maxHeight) (c .before .before .header .ensures)) ∙ sym (c .before .is-in-height .ensures) ∙ not-true _ (c .if2 .taken) in
+    sym (root-high (chooser (a .l .capacity) (a .s .now) (a .toward)) (a .l .capacity) (a .l .pool) (a .s .now) (a .root .0) (sym (c .before .before .before .before .is-empty-root .ensures) ∙ c .before .before .before .if1 .left) lo)
 
--- src/path.rt:95:5
 find-below-requires : tie.Need-find-below-requires
 find-below-requires c κs = search needs
 
--- src/path.rt:82:1
 returns-3 : tie.Need-returns-3
-returns-3 c = ?
+returns-3 c =
+    let a = c .before .before .before .before .before .before .before .args in
+    let hi : leb (height (a .l .capacity) (a .s .now) (a .root .0)) maxHeight ≡ true = sym (ap (λ (h : RowPageIndexNodeHeader). leb (h .height) maxHeight) (c .before .before .before .header .ensures)) ∙ sym (c .before .before .is-in-height .ensures) ∙ not-false _ (c .before .if2 .left) in
+    c .find-below .ensures
+    ∙ ap (λ (h : RowPageIndexNodeHeader). descend (chooser (a .l .capacity) (a .s .now) (a .toward)) (a .l .capacity) (a .l .pool) (a .s .now) (h .height) (a .root .0) (a .root .0) (h .«start_row_id» .0) Open) (c .before .before .before .header .ensures)
+    ∙ sym (root-path (chooser (a .l .capacity) (a .s .now) (a .toward)) (a .l .capacity) (a .l .pool) (a .s .now) (a .root .0) (sym (c .before .before .before .before .before .is-empty-root .ensures) ∙ c .before .before .before .before .if1 .left) hi)
 
 pub find-leaf-spec : {M : Type 1} → statement M
 find-leaf-spec =

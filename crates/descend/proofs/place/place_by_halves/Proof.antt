@@ -1,50 +1,48 @@
+use borrow.Author.Needs.{needs}
+use Prim.Native.Nat.{ℕ, _+_, _-_, _<_, _≤_}
+use mathlib.Core.Path.{_≡_, refl, sym, ap, _∙_, subst}
+use mathlib.Core.Logic.{⊎-elim, _⊎_, inl, inr}
+use native.Mathlib.Omega.{arith}
+use Rattle.model.specs.Words.{part, row}
+use Rattle.descend.proofs.Places.{place-at, above-from}
 use Rattle.descend.proofs.place.place_by_halves.Statement.{statement}
 use Rattle.descend.proofs.place.place_by_halves.Tie as tie
-use Rattle.descend.proofs.place.place_by_halves.Reads as reads
-use Rattle.descend.proofs.place.place_by_halves.Lts as lts
-use Rattle.node.proofs.layout.Layout.row.Reads as row-reads
 
 abbrev Inv-loop : tie.InvT-loop
-Inv-loop l s n count q low₀ high₀ low high = ?
+Inv-loop l s n count q low₀ high₀ low high =
+    (low < high) × (high ≤ count) × ((low ≡ 0) ⊎ (row (l .capacity) s (n .0) low ≤ q .0)) × ((count ≤ high) ⊎ (q .0 < row (l .capacity) s (n .0) high))
 
 abbrev μ-loop : tie.MeasureT-loop
-μ-loop l s n count q low₀ high₀ low high = ?
+μ-loop l s n count q low₀ high₀ low high = high - low
 
--- src/place.rt:40:5
 loop-holds : tie.Need-loop-holds Inv-loop μ-loop
-loop-holds c = ?
+loop-holds c = (omega arith, omega arith, inl refl, inl (omega arith))
 
--- src/place.rt:40:11
 add-loop : tie.Need-add-loop Inv-loop μ-loop
-add-loop c = ?
+add-loop c = search needs
 
--- src/place.rt:41:20
 add-mid : tie.Need-add-mid Inv-loop μ-loop
-add-mid c = ?
+add-mid c = search needs
 
--- src/place.rt:42:12
 row-requires : tie.Need-row-requires Inv-loop μ-loop
-row-requires c κs = ?
+row-requires c κs = search needs
 
--- src/place.rt:40:5
 loop-less : tie.Need-loop-less Inv-loop μ-loop
-loop-less c = ?
+loop-less c = search needs
 
--- src/place.rt:40:5
 loop-again : tie.Need-loop-again Inv-loop μ-loop
-loop-again c = ?
+loop-again c = (omega arith, omega arith, inr (omega (arith, c .if1 .taken, c .before .before .before .row .ensures)), c .before .before .before .before .before .loop .inv .3)
 
--- src/place.rt:40:5
 loop-less-2 : tie.Need-loop-less-2 Inv-loop μ-loop
-loop-less-2 c = ?
+loop-less-2 c = search needs
 
--- src/place.rt:40:5
 loop-again-2 : tie.Need-loop-again-2 Inv-loop μ-loop
-loop-again-2 c = ?
+loop-again-2 c = (omega arith, omega arith, c .before .before .before .before .before .loop .inv .2, inr (omega (arith, c .if1 .left, c .before .before .before .row .ensures)))
 
--- src/place.rt:33:1
 returns : tie.Need-returns Inv-loop μ-loop
-returns c = ?
+returns c =
+    let a = c .before .before .before .args in
+    place-at (a .l .capacity) (a .s .now) (a .n .0) (a .count) (c .before .before .before .pre .1 .1) (c .before .before .before .pre .1 .3) (a .q .0) (c .before .loop .low) (omega arith) (c .before .loop .inv .2) (λ m l b. above-from (a .l .capacity) (a .s .now) (a .n .0) (a .count) (c .before .before .before .pre .1 .1) (c .before .before .before .pre .1 .3) (a .q .0) (c .before .loop .high) (c .before .loop .inv .3) m (omega (arith, c .loop-test .left)) b)
 
 pub place-by-halves-spec : {M : Type 1} → statement M
 place-by-halves-spec =
