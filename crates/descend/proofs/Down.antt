@@ -5,7 +5,10 @@ use mathlib.Core.Bool.{Bool, true, false}
 use mathlib.Core.Path.{_≡_, refl, sym, ap, _∙_, subst}
 use native.Mathlib.Omega.{arith}
 use lib.Dec.{leb, ltb}
-use borrow.Author.Tests.{lt-ltb, le-ltb}
+use borrow.Author.Tests.{lt-ltb, le-ltb, ltb-true}
+use mathlib.Core.Logic.{_⊎_, inl, inr}
+use Rattle.model.proofs.Tests.{by-test}
+use Rattle.model.specs.Tree as Tree
 use Rattle.model.specs.Words.{pick, part, height, count, start, row, child, maxHeight}
 use Rattle.model.specs.Tree.{Limit, Open, nodeAt, sound, emptyRoot}
 use Rattle.model.specs.Reading.{Reached, unsound, leaf, nextRow, checked, descend, rootLeaf}
@@ -44,3 +47,40 @@ module _ (f : ℕ → ℕ) (C P : ℕ) (w : List ℕ) (n : ℕ) where
   pub root-path : emptyRoot C w n ≡ false → leb (height C w n) maxHeight ≡ true → rootLeaf f C P w n ≡ descend f C P w (height C w n) n n (start C w n) Open
   unfolding rootLeaf
   root-path e h = rw (e, h)
+
+-- a leaf that is reached is in the pool and sound there
+module _ (f : ℕ → ℕ) (C P : ℕ) (w : List ℕ) (n : ℕ) (b : Limit) where
+  pub record Sound : Type 0 where
+    pub inside : n < P
+    pub row : ℕ
+    pub good : Tree.sound C 0 (nodeAt C w n) row b ≡ true
+
+  not-leaf : {A : Type 0} (m : ℕ) → unsound m ≡ leaf n b → A
+  not-leaf m e = let z : _≡_ {A = ℕ} 0 1 = cc in absurd (omega arith)
+
+  pub path-sound : (h m k r : ℕ) (c : Limit) → descend f C P w h m k r c ≡ leaf n b → Sound
+  unfolding descend checked
+  path-sound zero m k r c e =
+      by-test (ltb k P)
+      (λ t. by-test (Tree.sound C 0 (nodeAt C w k) r c)
+        (λ s. let q : leaf k c ≡ leaf n b = rw (t, s) at e in
+          let i : k ≡ n = cc in let d : c ≡ b = cc in
+          record { inside = subst (λ (x : ℕ). x < P) i (ltb-true k P t); row = r; good = subst (λ (y : Limit). Tree.sound C 0 (nodeAt C w n) r y ≡ true) d (subst (λ (x : ℕ). Tree.sound C 0 (nodeAt C w x) r c ≡ true) i s) })
+        (λ s. not-leaf k (rw (t, s) at e)))
+      (λ t. not-leaf m (rw t at e))
+  path-sound (suc h) m k r c e =
+      by-test (ltb k P)
+      (λ t. by-test (Tree.sound C (suc h) (nodeAt C w k) r c)
+        (λ s. path-sound h k (child C w k (f k)) (row C w k (f k)) (nextRow C w k (f k) c) (rw (t, s) at e))
+        (λ s. not-leaf k (rw (t, s) at e)))
+      (λ t. not-leaf m (rw t at e))
+
+  -- from the root it may also be the empty root
+  pub root-sound : (k : ℕ) → k < P → rootLeaf f C P w k ≡ leaf n b → ((n < P) × (emptyRoot C w n ≡ true)) ⊎ Sound
+  unfolding rootLeaf
+  root-sound k l e =
+      by-test (emptyRoot C w k)
+      (λ t. let q : leaf k Open ≡ leaf n b = rw t at e in let i : k ≡ n = cc in inl (subst (λ (x : ℕ). x < P) i l, subst (λ (x : ℕ). emptyRoot C w x ≡ true) i t))
+      (λ t. by-test (leb (height C w k) maxHeight)
+        (λ u. inr (path-sound (height C w k) k k (start C w k) Open (rw (t, u) at e)))
+        (λ u. not-leaf k (rw (t, u) at e)))

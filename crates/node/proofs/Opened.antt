@@ -1,16 +1,19 @@
 -- The three answers of the header test.
-use Prim.Native.Nat.{ℕ, _≤_}
+use Prim.Native.Nat.{ℕ, _≤_, _<_}
 use mathlib.Core.List.{List}
 use mathlib.Core.Bool.{Bool, true, false}
 use mathlib.Core.Path.{_≡_, refl}
 use native.Mathlib.Omega.{arith}
 use lib.ListN.{length}
 use lib.Dec.{eqb}
-use borrow.Author.Tests.{eq-eqb, ne-eqb}
-use Rattle.model.specs.Words.{capacity, pool, root}
-use Rattle.model.specs.Refusals.{headerOk}
+use borrow.Author.Tests.{eq-eqb, ne-eqb, eqb-false}
+use Rattle.model.specs.Words.{pick, capacity, pool, root, freeHead, freeCount, Header}
+use Rattle.model.specs.Refusals.{Answer, headerOk, whenOpen, refusal}
+use Rattle.model.specs.declared.answer.Refusal.{Refusal}
+use Rattle.model.proofs.Tests.{by-test}
 use Rattle.model.specs.declared.answer.Refusal.the-variants.{Closed, Unsound}
 use Rattle.node.specs.Layout.{storeHeader, opened}
+use Rattle.node.specs.declared.header.StoreHeader.{StoreHeader}
 use Rattle.node.specs.declared.header.Opened.the-variants.{Open, Refused}
 use Rattle.node.proofs.Passed.{passed}
 
@@ -30,3 +33,42 @@ module _ (w : List ℕ) where
   -- the header's own words are there
   pub eight : headerOk w ≡ true → 8 ≤ length w
   eight e = let p = passed w e in omega arith
+
+-- The same test in the definitions of the calls: what a call does after it, in both cases
+pub record IsOpen (w : List ℕ) (h : StoreHeader) : Type 0 where
+  pub header-is : h ≡ storeHeader w
+  pub fits : Header (capacity w) (pool w) w
+  pub inside : root w < pool w
+  pub head-in : freeHead w ≤ pool w
+  pub free-in : freeCount w ≤ pool w
+  pub passes : headerOk w ≡ true
+
+module _ (w : List ℕ) where
+  pub is-open : (h : StoreHeader) → opened w ≡ Open h → IsOpen w h
+  unfolding opened
+  is-open h e =
+      by-test (headerOk w)
+      (λ t. by-test (eqb (root w) (pool w))
+        (λ u. let q : Refused Closed ≡ Open h = rw (t, u) at e in let z : _≡_ {A = ℕ} 0 1 = cc in absurd (omega arith))
+        (λ u. let q : Open (storeHeader w) ≡ Open h = rw (t, u) at e in
+          let p = passed w t in
+          record {
+            header-is = cc;
+            fits = p .header;
+            inside = omega (arith, p .root-in, eqb-false (root w) (pool w) u);
+            head-in = p .head-in;
+            free-in = p .free-in;
+            passes = t }))
+      (λ t. let q : Refused (Unsound (record { 0 = 65535 })) ≡ Open h = rw t at e in let z : _≡_ {A = ℕ} 0 1 = cc in absurd (omega arith))
+
+  pub is-refused : (r : Refusal) → opened w ≡ Refused r → {A : Type 0} (refuse : Answer → A) (a : A) → whenOpen w refuse a ≡ refuse (refusal r)
+  unfolding opened
+  is-refused r e refuse a =
+      by-test (headerOk w)
+      (λ t. by-test (eqb (root w) (pool w))
+        (λ u. let q : Refused Closed ≡ Refused r = rw (t, u) at e in let d : Closed ≡ r = cc in rw (t, u, ← d))
+        (λ u. let q : Open (storeHeader w) ≡ Refused r = rw (t, u) at e in let z : _≡_ {A = ℕ} 0 1 = cc in absurd (omega arith)))
+      (λ t. let q : Refused (Unsound (record { 0 = 65535 })) ≡ Refused r = rw t at e in let d : Unsound (record { 0 = 65535 }) ≡ r = cc in rw (t, ← d))
+
+  pub goes-on : (h : StoreHeader) → IsOpen w h → {A : Type 0} (refuse : Answer → A) (a : A) → whenOpen w refuse a ≡ a
+  goes-on h o refuse a = rw (o .passes, ne-eqb (root w) (pool w) (λ e. omega (arith, o .inside)))
