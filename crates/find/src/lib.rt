@@ -1,0 +1,76 @@
+// The lookup.
+
+ghost use mathlib.Core.Path.{_≡_};
+ghost use mathlib.Core.Bool.{true};
+ghost use mathlib.Core.Logic.{_⊎_};
+ghost use Prim.Native.Nat.{ℕ, _<_};
+ghost use Rattle.model.specs.Tree.{Limit, emptyRoot};
+ghost use Rattle.model.specs.Reading.{leaf};
+ghost use Rattle.model.specs.Lookup.{findInTree, foundIn, tryFindRow};
+ghost use Rattle.model.specs.Refusals.{location};
+ghost use Rattle.node.specs.Layout.{Fits};
+ghost use Rattle.find.specs.Leaf.{IsLeaf};
+use descend::path;
+use descend::path::Reached;
+use descend::path::Toward;
+use descend::place;
+use model::answer::Refusal;
+use model::answer::RowLocation;
+use model::id::NodeNo;
+use model::id::RowID;
+use node::header;
+use node::header::Opened;
+use node::layout::Layout;
+use node::test;
+
+// In a leaf that was reached.
+fn find_in_leaf(l: Layout, s: &[u64], n: NodeNo, row: RowID) -> RowLocation
+    requires { ⌜ Fits l (now s) ⌝ }
+    requires { ⌜ IsLeaf (l .capacity) (l .pool) (now s) (n .0) ⌝ }
+    ensures { λ r. ⌜ ((b : Limit) → location r ≡ foundIn (l .capacity) (now (s .entry)) (row .0) (leaf (n .0) b)) ⌝ }
+{
+    let count = l.part(s, n, 1);
+    if count == 0 {
+        return RowLocation::NotFound;
+    }
+    let end = l.part(s, n, 3);
+    if end <= row.0 {
+        return RowLocation::NotFound;
+    }
+    let i = place::place_of(l, s, n, count, row);
+    RowLocation::RowPage(l.page(s, n, i))
+}
+
+// In the tree of an open store. Below the root's start only the root is read.
+fn find_in_tree(l: Layout, s: &[u64], root: NodeNo, row: RowID) -> RowLocation
+    requires { ⌜ Fits l (now s) ⌝ }
+    requires { ⌜ root .0 < l .pool ⌝ }
+    ensures { λ r. ⌜ location r ≡ findInTree (l .capacity) (l .pool) (now (s .entry)) (root .0) (row .0) ⌝ }
+{
+    let start = l.part(s, root, 2);
+    if row.0 < start {
+        let good = test::is_sound_root(l, s, root);
+        if !good {
+            return RowLocation::Refused(Refusal::Unsound(root));
+        }
+        return RowLocation::NotFound;
+    }
+    match path::find_leaf(l, s, root, Toward::Row(row)) {
+        Reached::Unsound(n) => RowLocation::Refused(Refusal::Unsound(n)),
+        Reached::Leaf(n, _) => find_in_leaf(l, s, n, row),
+    }
+}
+
+// The page that holds a row, or none.
+pub fn try_find_row(s: &[u64], row: RowID) -> RowLocation
+    ensures { λ r. ⌜ location r ≡ tryFindRow (now (s .entry)) (row .0) ⌝ }
+{
+    match header::open(s) {
+        Opened::Refused(r) => RowLocation::Refused(r),
+        Opened::Open(h) => {
+            let l = h.layout;
+            let root = h.root;
+            find_in_tree(l, s, root, row)
+        }
+    }
+}
