@@ -18,10 +18,10 @@ five =
     ∷ line (Append 10 4) (result (30 ∷ 40 ∷ 0 ∷ []))
     ∷ line (Append 10 5) (result (40 ∷ 50 ∷ 3 ∷ []))
     ∷ line Shape
-      (result
-        (2 ∷ 2 ∷ 0 ∷ NONE
-        ∷ 1 ∷ 2 ∷ 0 ∷ 40 ∷ 0 ∷ 2 ∷ 0 ∷ 20 ∷ 0 ∷ 2 ∷ 20 ∷ 40
-        ∷ 1 ∷ 1 ∷ 40 ∷ NONE ∷ 0 ∷ 1 ∷ 40 ∷ 50 ∷ []))
+    (result
+    (2 ∷ 2 ∷ 0 ∷ NONE
+    ∷ 1 ∷ 2 ∷ 0 ∷ 40 ∷ 0 ∷ 2 ∷ 0 ∷ 20 ∷ 0 ∷ 2 ∷ 20 ∷ 40
+    ∷ 1 ∷ 1 ∷ 40 ∷ NONE ∷ 0 ∷ 1 ∷ 40 ∷ 50 ∷ []))
     ∷ []
 
 -- "seventh 1, ninth 4 (height 3, 11 nodes)"; "After nine: find 9 is 1, 10 is 2, 89 is 9, 90 none. Walk from 0: starts
@@ -35,19 +35,21 @@ nine =
     ∷ line (Append 10 9) (result (80 ∷ 90 ∷ 4 ∷ []))
     ∷ line Check (result (9 ∷ 11 ∷ 5 ∷ []))
     ∷ line Shape
-      (result
-        (3 ∷ 2 ∷ 0 ∷ NONE
-        ∷ 2 ∷ 2 ∷ 0 ∷ 80
-        ∷ 1 ∷ 2 ∷ 0 ∷ 40 ∷ 0 ∷ 2 ∷ 0 ∷ 20 ∷ 0 ∷ 2 ∷ 20 ∷ 40
-        ∷ 1 ∷ 2 ∷ 40 ∷ NONE ∷ 0 ∷ 2 ∷ 40 ∷ 60 ∷ 0 ∷ 2 ∷ 60 ∷ 80
-        ∷ 2 ∷ 1 ∷ 80 ∷ NONE ∷ 1 ∷ 1 ∷ 80 ∷ NONE ∷ 0 ∷ 1 ∷ 80 ∷ 90 ∷ []))
+    (result
+    (3 ∷ 2 ∷ 0 ∷ NONE
+    ∷ 2 ∷ 2 ∷ 0 ∷ 80
+    ∷ 1 ∷ 2 ∷ 0 ∷ 40 ∷ 0 ∷ 2 ∷ 0 ∷ 20 ∷ 0 ∷ 2 ∷ 20 ∷ 40
+    ∷ 1 ∷ 2 ∷ 40 ∷ NONE ∷ 0 ∷ 2 ∷ 40 ∷ 60 ∷ 0 ∷ 2 ∷ 60 ∷ 80
+    ∷ 2 ∷ 1 ∷ 80 ∷ NONE ∷ 1 ∷ 1 ∷ 80 ∷ NONE ∷ 0 ∷ 1 ∷ 80 ∷ 90 ∷ []))
     ∷ line (Find 9) (result (1 ∷ []))
     ∷ line (Find 10) (result (2 ∷ []))
     ∷ line (Find 89) (result (9 ∷ []))
     ∷ line (Find 90) (result [])
-    ∷ (Walk 0,
+    ∷ (
+      Walk 0,
       result (0 ∷ 20 ∷ 2 ∷ []) ∷ result (20 ∷ 40 ∷ 2 ∷ []) ∷ result (40 ∷ 60 ∷ 2 ∷ []) ∷ result (60 ∷ 80 ∷ 2 ∷ [])
-      ∷ result (80 ∷ 90 ∷ 1 ∷ []) ∷ result [] ∷ [])
+          ∷ result (80 ∷ 90 ∷ 1 ∷ []) ∷ result [] ∷ [],
+    )
     ∷ [])
 
 -- "After five, prune to 20: 2 1 0; 30: 3 1 0; 40: 4 5 2; 50: 5 5 0, then find 50 is none."

@@ -41,10 +41,14 @@ module _ (C P : ℕ) (w : List ℕ) (h r : ℕ) (ns : List ℕ) (formed : Formed
   pub room : freeCount w + length (nodes (suc h) tree) ≤ P
   room =
       let all = nodes (suc h) tree ++ ns in
-      omega (arith, formed .free, length-append (nodes (suc h) tree) ns,
+      omega (
+        arith,
+        formed .free,
+        length-append (nodes (suc h) tree) ns,
         most all P
-        (λ m p. omega (arith, occ-append m (nodes (suc h) tree) ns, rw (le-ltb m P p) at (formed .cover m)))
-        (λ m. by-test (ltb m P) (λ t. omega (arith, occ-append m (nodes (suc h) tree) ns, rw t at (formed .cover m))) (λ t. omega (arith, occ-append m (nodes (suc h) tree) ns, rw t at (formed .cover m)))))
+            (λ m p. omega (arith, occ-append m (nodes (suc h) tree) ns, rw (le-ltb m P p) at (formed .cover m)))
+            (λ m. by-test (ltb m P) (λ t. omega (arith, occ-append m (nodes (suc h) tree) ns, rw t at (formed .cover m))) (λ t. omega (arith, occ-append m (nodes (suc h) tree) ns, rw t at (formed .cover m)))),
+      )
 
   root-in : Whole C P h tree r → root w < P
   unfolding Well level
@@ -58,8 +62,18 @@ module _ (C P : ℕ) (w : List ℕ) (h r : ℕ) (ns : List ℕ) (formed : Formed
   unfolding headerOk
   header-ok =
       let d = formed .header in
-      rw (formed .capacity-is, formed .pool-is, le-leb 2 C (d .cap-low), le-leb C 4094 (d .cap-high), le-leb 1 P (d .pool-low), le-leb P 65535 (d .pool-high),
-        eq-eqb (length w) (storeLength C P) (d .long), le-leb (root w) P (omega (arith, root-inside)), le-leb (freeHead w) P (chain-low C P w (freeHead w) ns (formed .chain)), le-leb (freeCount w) P (omega (arith, room)))
+      rw (
+        formed .capacity-is,
+        formed .pool-is,
+        le-leb 2 C (d .cap-low),
+        le-leb C 4094 (d .cap-high),
+        le-leb 1 P (d .pool-low),
+        le-leb P 65535 (d .pool-high),
+        eq-eqb (length w) (storeLength C P) (d .long),
+        le-leb (root w) P (omega (arith, root-inside)),
+        le-leb (freeHead w) P (chain-low C P w (freeHead w) ns (formed .chain)),
+        le-leb (freeCount w) P (omega (arith, room)),
+      )
 
   is-open : eqb (root w) P ≡ false
   is-open = ne-eqb (root w) P (λ e. omega (arith, root-inside))
@@ -72,7 +86,8 @@ module _ (C P : ℕ) (w : List ℕ) (h r : ℕ) (ns : List ℕ) (formed : Formed
           leaf = none .high;
           none = sym (length-pairs C w (level C w h) (root w) 0 (count C w (root w))) ∙ ap length (none .none);
           low = omega (arith, none .low, none .begin);
-          ends = none .ends }
+          ends = none .ends;
+        }
 
     empty-start : start C w (root w) ≡ r
     unfolding level
@@ -91,7 +106,7 @@ module _ (C P : ℕ) (w : List ℕ) (h r : ℕ) (ns : List ℕ) (formed : Formed
         let n = root w in
         let here : sound C h (nodeAt C w n) r Open ≡ true = sym (sound-at (level C w h) C w h n r Open) ∙ is-true (sound C h tree r Open) (well .1) in
         let there : sound C (height C w n) (nodeAt C w n) (start C w n) Open ≡ true =
-            subst (λ (k : ℕ). sound C k (nodeAt C w n) (start C w n) Open ≡ true) (sym (root-own .0)) (subst (λ (k : ℕ). sound C h (nodeAt C w n) k Open ≡ true) (sym (root-own .1)) here) in
+        subst (λ (k : ℕ). sound C k (nodeAt C w n) (start C w n) Open ≡ true) (sym (root-own .0)) (subst (λ (k : ℕ). sound C h (nodeAt C w n) k Open ≡ true) (sym (root-own .1)) here) in
         rw (not-blank, there, le-leb (height C w n) maxHeight (omega (arith, root-own .0, formed .high)))
 
   module _ (s e : ℕ) (ids : List ℕ) where
@@ -107,10 +122,10 @@ module _ (C P : ℕ) (w : List ℕ) (h r : ℕ) (ns : List ℕ) (formed : Formed
       by-entries =
           ap (λ (x : Scan). pruneScanned C P w (root w) h e tree (ranOut e x))
           (subst (λ (k : ℕ). scan C w e (visits false C P (suc h) (root w) tree k Open) (on ids 0 0) ≡ run e (entries (suc h) tree r Open) (on ids 0 0)) (sym (root-own well .1))
-            (scan-sound C P w e h (root w) (root w) r Open (on ids 0 0) (well-sound C P (suc h) tree r Open well)))
+          (scan-sound C P w e h (root w) (root w) r Open (on ids 0 0) (well-sound C P (suc h) tree r Open well)))
 
       pub asked-held : pruneCheckpointPrefix w s e ids
           ≡ pick (eqb (length ids) 0 || leb e s) (refuse w 7 0)
-            (pick (eqb s r) (pruneScanned C P w (root w) h e tree (ranOut e (run e (entries (suc h) tree r Open) (on ids 0 0)))) (refuse w 8 r))
+          (pick (eqb s r) (pruneScanned C P w (root w) h e tree (ranOut e (run e (entries (suc h) tree r Open) (on ids 0 0)))) (refuse w 8 r))
       unfolding pruneCheckpointPrefix
       asked-held = rw (header-ok, formed .pool-is, is-open, formed .capacity-is, root-ok well, not-blank well, root-own well .0, root-own well .1, by-entries)

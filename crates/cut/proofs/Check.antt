@@ -82,8 +82,8 @@ module _ (C P : ℕ) (w : List ℕ) (e : ℕ) where
   scan-sound (suc h) m n r b s g =
       rw (shows (suc h) m n r b g)
       (enter-branch n h (overPairs (visits false C P (suc h) n) (pairsFrom C w (level C w (suc h)) n 0 (count C w n)) b ++ (Leave n ∷ [])) s (own C P w (suc h) n r b g .0)
-        ∙ scan-append (overPairs (visits false C P (suc h) n) (pairsFrom C w (level C w (suc h)) n 0 (count C w n)) b) (Leave n ∷ []) s
-        ∙ pairs-run (suc h) n n (λ x r₂ b₂ s₂ q. scan-sound h n x r₂ b₂ s₂ q) 0 (count C w n) b s (g .2))
+      ∙ scan-append (overPairs (visits false C P (suc h) n) (pairsFrom C w (level C w (suc h)) n 0 (count C w n)) b) (Leave n ∷ []) s
+      ∙ pairs-run (suc h) n n (λ x r₂ b₂ s₂ q. scan-sound h n x r₂ b₂ s₂ q) 0 (count C w n) b s (g .2))
 
 -- What the check says of the entries ---------------------------------------------------------------
 -- entries that follow each other from row r to row z
@@ -142,6 +142,6 @@ used-run e _ _ _ (more r x z page es l t) [] p k q = used-first e r z p k (recor
 used-run e _ _ _ (more r x z page es l t) (y ∷ ids) p k q =
     by-test (eqb page y)
     (λ u. by-test (leb x e)
-      (λ v. one-more e r x z p k y page ids es l (leb-true x e v) (used-run e x z es t ids (p + 1) k (rw (u, v) at q)))
-      (λ v. no-way 10 p [] k e (sym (run-stopped e es 10 p) ∙ (rw (u, v) at q))))
+    (λ v. one-more e r x z p k y page ids es l (leb-true x e v) (used-run e x z es t ids (p + 1) k (rw (u, v) at q)))
+    (λ v. no-way 10 p [] k e (sym (run-stopped e es 10 p) ∙ (rw (u, v) at q))))
     (λ u. no-way 9 p [] k e (sym (run-stopped e es 9 p) ∙ (rw u at q)))

@@ -35,7 +35,7 @@ module _ {K : Type 0} (e : ℕ) (Q : K → ℕ → Limit → Type 0) (f : K → 
       by-rest (f (k .1) (k .0))
       (λ g. let z : [] ≡ (s, y) ∷ [] = rw g at p in let n : _≡_ {A = ℕ} 0 1 = cc in absurd (omega arith))
       (λ x g. let q = nothing-kept k [] (upTo e (k .0)) x (rw g at p) in
-        record { what = k .1; low = k .0; is = g ∙ ap stays (q .1); holds = a .0; at = λ h z. refl })
+      record { what = k .1; low = k .0; is = g ∙ ap stays (q .1); holds = a .0; at = λ h z. refl })
   lone k (k₂ ∷ ps) a p =
       by-rest (f (k .1) (k .0))
       (λ g. let r = lone k₂ ps (a .1) (rw g at p) in record { what = r .what; low = r .low; is = r .is; holds = r .holds; at = λ h z. r .at h z })
@@ -89,5 +89,5 @@ module _ (C P e : ℕ) where
   copies-sound (suc h) t y r g =
       by-test (ltb r e)
       (λ u. rw u (λ p. rw (← ap (λ (v : Node (Level (suc h))). v .pairs) (trim-is e t y (cutPairs e (cut (suc h) e) (t .pairs)) p))
-        (cut-begins h (copies-sound h) t r (t .pairs) (sound-begins C (suc h) t r Open (g .1)) (g .3))))
+      (cut-begins h (copies-sound h) t r (t .pairs) (sound-begins C (suc h) t r Open (g .1)) (g .3))))
       (λ u. rw u (λ p. rw (← ap (λ (v : Node (Level (suc h))). v .pairs) (stays-is t y p)) (uncut-case h (copies-sound h) t r (t .pairs) u (sound-begins C (suc h) t r Open (g .1)) (g .3))))

@@ -23,11 +23,19 @@ module _ (C P a b : ℕ) (inside : b < P) (apart : a ≢ b) (w : List ℕ) (hd :
       let few : count C w a ≤ C = omega (arith, nar .0, length-pairs C w (level C w h) a 0 (count C w a)) in
       let v = copied C w a b in
       let p : (i : ℕ) → i < nodeSize C → part C v b i ≡ part C w a i = λ i l. copied-part C a b w P hd apart inside i l in
-      rw (p 0 (omega arith), p 1 (omega arith), p 2 (omega arith), p 3 (omega arith),
+      rw (
+        p 0 (omega arith),
+        p 1 (omega arith),
+        p 2 (omega arith),
+        p 3 (omega arith),
         ← pairs-same C w v (level C w h) (level C v h) a b 0 (count C w a)
-        (λ j l u. (sym (p (rowPlace C j) (omega arith)), sym (p (childPlace C j) (omega arith)),
-          kept C w v h (child C w a j) (all-child C w (level C w h) a (λ x r c. Narrow C h x) 0 (count C w a) Open (nar .1) j (omega arith) (omega arith) .1)
-            (λ m q. copied-keeps C a b w m (λ e. absurd (omega (arith, z, nodes-self C w h a b, occ-child C w (level C w h) a (nodes h) b 0 (count C w a) j (omega arith) (omega arith), subst (λ (k : ℕ). 0 < occ k (nodes h (level C w h (child C w a j)))) e q)))))))
+            (λ j l u. (
+              sym (p (rowPlace C j) (omega arith)),
+              sym (p (childPlace C j) (omega arith)),
+              kept C w v h (child C w a j) (all-child C w (level C w h) a (λ x r c. Narrow C h x) 0 (count C w a) Open (nar .1) j (omega arith) (omega arith) .1)
+                  (λ m q. copied-keeps C a b w m (λ e. absurd (omega (arith, z, nodes-self C w h a b, occ-child C w (level C w h) a (nodes h) b 0 (count C w a) j (omega arith) (omega arith), subst (λ (k : ℕ). 0 < occ k (nodes h (level C w h (child C w a j)))) e q)))),
+            )),
+      )
 
 -- only what stands below a node matters
 copiedNodes-named : (h n : ℕ) (x : Level (suc h)) → copiedNodes h (named n x) ≡ copiedNodes h x
@@ -132,9 +140,9 @@ module _ (C P n : ℕ) (inside : n < P) where
   copy-all (suc h) v hd t p nar one =
       subst (λ (y : Level (suc (suc h))). Narrow C (suc (suc h)) y → ((m : ℕ) → occ m (nodes (suc (suc h)) y) ≤ 1) → Collapsed C P n v (copyAll C v n (copiedNodes (suc h) y)) (collapse n (suc h) y)) p
       (λ a o. by-count (count C v n)
-        (λ e. stay-case h v hd (λ e₂. absurd (omega arith)))
-        (λ e. copy-case h (copy-all h) v hd a o e)
-        (λ k e. stay-case h v hd (λ e₂. absurd (omega arith))))
+      (λ e. stay-case h v hd (λ e₂. absurd (omega arith)))
+      (λ e. copy-case h (copy-all h) v hd a o e)
+      (λ k e. stay-case h v hd (λ e₂. absurd (omega arith))))
       nar one
 
 pub copies-word : (C : ℕ) (w : List ℕ) (n : ℕ) (ns : List ℕ) (i : ℕ) → i < 8 → word (copyAll C w n ns) i ≡ word w i

@@ -75,7 +75,7 @@ module _ (C P h e : ℕ) (t : Level (suc h)) (r : ℕ) (b : Limit) (well : Well 
     cut-entries =
         collapse-entries (t .number) h y e (upTo e r) b
         ∙ subst (λ (c : Rest (Level (suc h))). CutTo (entries (suc h)) e c r b (dropTo e (entries (suc h) t r b))) stay
-          (rest-entries C P (suc h) e t r b (well-sound C P (suc h) t r b well)) .0
+        (rest-entries C P (suc h) e t r b (well-sound C P (suc h) t r b well)) .0
 
     -- those gone, those that stay, those copied, and the root
     pub cut-nodes : nodes (suc h) t ≡ goneNodes h e t ++ (belowRoot (collapse (t .number) h y) ++ (reverse (copiedNodes h y) ++ (t .number ∷ [])))

@@ -52,7 +52,6 @@ module _ {K : Type 0} (e : ℕ) (f : K → ℕ → Rest K) (en : K → ℕ → L
     (cuts : (x : K) (r : ℕ) (b : Limit) → Q x r b → CutTo en e (f x r) r b (dropTo e (en x r b)))
     (fit : (x : K) (r : ℕ) (b : Limit) → Q x r b → Lands e (dropTo e (en x r b)) → RestFits Q e (f x r) r b)
     (z : ℕ → Bool) (end : Limit) (zok : (x y : K) (r : ℕ) → f x r ≡ stays y → r < e → Under e end → T (z e)) where
-
   -- rows rise from e where a pair stays
   rise-here : (x y : K) (r : ℕ) (ps : List (ℕ × K)) → f x r ≡ stays y → upTo e r ≡ e → Q y e (next ps end) → T (rises z r ps) → T (rises z e ps)
   unfolding rises next Under
@@ -108,10 +107,11 @@ module _ (C P : ℕ) where
   trim-well h e t r b (k ∷ ps) g l n q =
       let s = soundly C h t r b (g .1) in
       let new : Soundly C h (withPairs e t (k ∷ ps)) e b = record {
-            high = s .high;
-            many = omega (arith, s .many);
-            begin = refl;
-            rise = both (eqb (k .0) e) (rises (endSound h b (t .end)) (k .0) ps) (T-eq (k .0) e (q .0)) (rw (q .0) (q .1)) } in
+        high = s .high;
+        many = omega (arith, s .many);
+        begin = refl;
+        rise = both (eqb (k .0) e) (rises (endSound h b (t .end)) (k .0) ps) (T-eq (k .0) e (q .0)) (rw (q .0) (q .1));
+      } in
       ((g .0, sound-of C h (withPairs e t (k ∷ ps)) e b new, g .2, q .2), rw (lt-ltb r e l))
 
   untouched : (h e : ℕ) (t : Level h) (r : ℕ) (b : Limit) → Well C P h t r b → Lands e (dropTo e (entries h t r b)) → ltb r e ≡ false → Well C P h t e b × (upTo e r ≡ e)
@@ -127,7 +127,7 @@ module _ (C P : ℕ) where
   rest-well (suc h) e t r b g l =
       by-test (ltb r e)
       (λ u. rw u (trim-well h e t r b (cutPairs e (cut h e) (t .pairs)) g (ltb-true r e u) (cut-length e (cut h e) (t .pairs))
-        (rows-fit e (cut h e) (entries h) (Well C P h) (λ x r₂ b₂ q. sound-below C P h x r₂ b₂ (well-sound C P h x r₂ b₂ q))
-          (λ x r₂ b₂ q. rest-entries C P h e x r₂ b₂ (well-sound C P h x r₂ b₂ q)) (rest-well h e)
-          (endSound h b (t .end)) (last h (t .end) b) (last-ok h e (t .end) b (g .2)) r (t .pairs) (soundly C h t r b (g .1) .rise) (g .3) l)))
+      (rows-fit e (cut h e) (entries h) (Well C P h) (λ x r₂ b₂ q. sound-below C P h x r₂ b₂ (well-sound C P h x r₂ b₂ q))
+      (λ x r₂ b₂ q. rest-entries C P h e x r₂ b₂ (well-sound C P h x r₂ b₂ q)) (rest-well h e)
+      (endSound h b (t .end)) (last h (t .end) b) (last-ok h e (t .end) b (g .2)) r (t .pairs) (soundly C h t r b (g .1) .rise) (g .3) l)))
       (λ u. rw (u, RestFits) (untouched (suc h) e t r b g l u))

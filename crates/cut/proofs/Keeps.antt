@@ -87,15 +87,28 @@ module _ (C P : ℕ) (w : List ℕ) (h r : ℕ) (ns : List ℕ) (formed : Formed
           high = omega (arith, formed .high);
           chain = left .chain;
           free = omega (arith, left .free, formed .free, longer);
-          cover = λ m. rw (tree-is, ← formed .cover m) (omega (arith, split m, occ-append m (reverse ms) ns, occ-reverse m ms)) }
+          cover = λ m. rw (tree-is, ← formed .cover m) (omega (arith, split m, occ-append m (reverse ms) ns, occ-reverse m ms));
+        }
 
     pub pruned-as : Pruned C P w h r ns e k (length ms) l v
     pruned-as =
         record {
-          height = t .0; freed = ms; chain = reverse ms ++ ns; formed = formed-after;
-          entries-left = rw tree-is ends; enough = enough;
-          split = λ m. rw tree-is (split m); many = refl; fewer = rw tree-is (omega (arith, count));
-          chain-is = refl; more = longer; same-root = same-root; lower = lower; levels = rw tree-is levels; reset = λ p. reset (rw tree-is at p) }
+          height = t .0;
+          freed = ms;
+          chain = reverse ms ++ ns;
+          formed = formed-after;
+          entries-left = rw tree-is ends;
+          enough = enough;
+          split = λ m. rw tree-is (split m);
+          many = refl;
+          fewer = rw tree-is (omega (arith, count));
+          chain-is = refl;
+          more = longer;
+          same-root = same-root;
+          lower = lower;
+          levels = rw tree-is levels;
+          reset = λ p. reset (rw tree-is at p);
+        }
 
 module _ (C P : ℕ) (w : List ℕ) (h r : ℕ) (ns : List ℕ) (formed : Formed C P w h r ns) (well : Well C P (suc h) (treeOf C w h) r Open)
     (e : ℕ) (ids : List ℕ) (below : r < e) (some : eqb (length ids) 0 ≡ false) where
@@ -142,8 +155,13 @@ module _ (C P : ℕ) (w : List ℕ) (h r : ℕ) (ns : List ℕ) (formed : Formed
       emptied-is : outcome ≡ record { answer = result (length ids ∷ length (goneNodes h e before) ∷ 0 ∷ []); words = pruneTree C w (root w) h e before [] }
       unfolding pruneScanned pruneWith
       emptied-is =
-          rw (no-copies, add-zero, le-leb (freeCount w + length (goneNodes h e before)) P
-            (omega (arith, room C P w h r ns formed, ap length parts, length-append (goneNodes h e before) (root w ∷ []))), k-is)
+          rw (
+            no-copies,
+            add-zero,
+            le-leb (freeCount w + length (goneNodes h e before)) P
+                (omega (arith, room C P w h r ns formed, ap length parts, length-append (goneNodes h e before) (root w ∷ []))),
+            k-is,
+          )
 
       inside : root w < P
       inside = root-inside C P w h r ns formed
@@ -162,13 +180,16 @@ module _ (C P : ℕ) (w : List ℕ) (h r : ℕ) (ns : List ℕ) (formed : Formed
       accepts-none : Accepts C P w h r ns e ids outcome
       accepts-none =
           rw emptied-is (record {
-            f = length (goneNodes h e before); l = 0; answer = refl;
+            f = length (goneNodes h e before);
+            l = 0;
+            answer = refl;
             pruned = pruned-as C P w h r ns formed e (length ids) 0 (pruneTree C w (root w) h e before []) (goneNodes h e before) (emptyTree (root w) e)
-              (prune-reset C P w (formed .header) h (root w) e r Open well below (used .lands) ns (formed .cover) (formed .chain) none)
-              (blank (record { leaf = refl; inside = inside; high = refl; none = refl; begin = refl; low = low; ends = refl }))
-              (λ m. ap (occ m) parts ∙ occ-append m (goneNodes h e before) (root w ∷ []) ∙ rw one-node)
-              (ap length parts ∙ length-append (goneNodes h e before) (root w ∷ []) ∙ rw one-node)
-              (omega arith) (no-entries ∙ sym (gone-entries C P h e before r Open well below (used .lands) none) ∙ used .cut) (used .enough) no-levels (λ p. refl) })
+                (prune-reset C P w (formed .header) h (root w) e r Open well below (used .lands) ns (formed .cover) (formed .chain) none)
+                (blank (record { leaf = refl; inside = inside; high = refl; none = refl; begin = refl; low = low; ends = refl }))
+                (λ m. ap (occ m) parts ∙ occ-append m (goneNodes h e before) (root w ∷ []) ∙ rw one-node)
+                (ap length parts ∙ length-append (goneNodes h e before) (root w ∷ []) ∙ rw one-node)
+                (omega arith) (no-entries ∙ sym (gone-entries C P h e before r Open well below (used .lands) none) ∙ used .cut) (used .enough) no-levels (λ p. refl);
+          })
 
     -- y stays
     module _ (y : Level (suc h)) (stay : cut (suc h) e before r ≡ stays y) where
@@ -183,7 +204,7 @@ module _ (C P : ℕ) (w : List ℕ) (h r : ℕ) (ns : List ℕ) (formed : Formed
       the-copies =
           rw (root-rest C P h e before r Open well below (used .lands), stay)
           (subst (λ (s : ℕ). copiesFrom C P h e before s ≡ copies (copiedNodes h y)) (sym (own C P w h (root w) r Open (well-sound C P (suc h) before r Open well) .1))
-            (copies-sound C P e h before y r well stay))
+          (copies-sound C P e h before y r well stay))
 
       many-freed : length freeing ≡ length (goneNodes h e before) + length (copiedNodes h y)
       many-freed = omega (arith, length-append (goneNodes h e before) (reverse (copiedNodes h y)), length-reverse (copiedNodes h y))
@@ -218,10 +239,13 @@ module _ (C P : ℕ) (w : List ℕ) (h r : ℕ) (ns : List ℕ) (formed : Formed
       accepts-some : Accepts C P w h r ns e ids outcome
       accepts-some =
           rw cut-is (record {
-            f = length freeing; l = length (copiedNodes h y); answer = refl;
+            f = length freeing;
+            l = length (copiedNodes h y);
+            answer = refl;
             pruned = pruned-as C P w h r ns formed e (length ids) (length (copiedNodes h y)) (pruneTree C w (root w) h e before (copiedNodes h y)) freeing new
-              (prune-tree C P w (formed .header) h (root w) e r Open well below (used .lands) ns (formed .cover) (formed .chain) y stay)
-              (held new-well) split counts (omega (arith, collapse-levels (root w) h y)) new-entries (used .enough) levels-are (λ p. not-none e (treeEntries new e Open) new-starts p) })
+                (prune-tree C P w (formed .header) h (root w) e r Open well below (used .lands) ns (formed .cover) (formed .chain) y stay)
+                (held new-well) split counts (omega (arith, collapse-levels (root w) h y)) new-entries (used .enough) levels-are (λ p. not-none e (treeEntries new e Open) new-starts p);
+          })
 
     -- the law
     pub accepted : Accepts C P w h r ns e ids outcome

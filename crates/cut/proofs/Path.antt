@@ -36,10 +36,10 @@ module _ {K : Type 0} (C : ℕ) (w : List ℕ) (g : ℕ → K) (n e : ℕ) (f : 
   spot i (suc c) no-one some-one =
       by-rest (f (g (child C w n i)) (row C w n i))
       (λ p. spot (i + 1) c (λ q. no-one (rw p q))
-        (λ s. let a : i + 1 + c ≡ i + suc c = omega arith in
-          some-one (record { place = s .place; what = s .what; low = omega (arith, s .low); high = omega (arith, s .high); is = s .is; cuts = rw (p, ← a) (s .cuts); trimmed-in = λ tr. rw p (s .trimmed-in tr) })))
+      (λ s. let a : i + 1 + c ≡ i + suc c = omega arith in
+      some-one (record { place = s .place; what = s .what; low = omega (arith, s .low); high = omega (arith, s .high); is = s .is; cuts = rw (p, ← a) (s .cuts); trimmed-in = λ tr. rw p (s .trimmed-in tr) })))
       (λ y p. let a : i + suc c - (i + 1) ≡ c = omega arith in
-        some-one (record { place = i; what = y; low = omega arith; high = omega arith; is = p; cuts = rw (p, a); trimmed-in = λ tr. rw p }))
+      some-one (record { place = i; what = y; low = omega arith; high = omega arith; is = p; cuts = rw (p, a); trimmed-in = λ tr. rw p }))
 
 -- the same words make the same node
 with-same : {K : Type 0} (C : ℕ) (w v : List ℕ) (f : ℕ → K) (n : ℕ) → Same C w v n → count C w n ≤ C → nodeWith C w f n ≡ nodeWith C v f n
@@ -114,19 +114,27 @@ module _ (C P e : ℕ) (w : List ℕ) where
           let g = all-child C w (level C w h) n (AllSound C P h) (j + 1) (count C w n - (j + 1)) (last h (end C w n) b) sound-others a l u in
           kept C w v₂ h (child C w n a) (sound-narrow C P h (level C w h (child C w n a)) (row C w n a) (g .0) (g .1))
           (λ m p i q. let o = occ-child C w (level C w h) n (nodes h) m (j + 1) (count C w n - (j + 1)) a l u in
-            same m (omega (arith, parts m)) i q ∙ to-v₁ m (not-n m (omega arith)) i q ∙ t .beside m (omega (arith, parts m, one m)) i q)
+          same m (omega (arith, parts m)) i q ∙ to-v₁ m (not-n m (omega arith)) i q ∙ t .beside m (omega (arith, parts m, one m)) i q)
 
       node-case : Trimmed C P (suc h) n v v₂ (trimmedNode h n j x)
       unfolding level v₁ others
       node-case =
           record {
             tree =
-              sym (with-same C v₁ v₂ (level C v₂ h) n (t .beside n (omega (arith, parts n, one n, occ-self n))) (trimmed-few C P v hd n j e inside lose-v few-v))
-              ∙ trimmed-with C P v hd n j e inside lose-v few-v (level C v₂ h)
-              ∙ rw (← same-n 0 (omega arith), ← same-n 3 (omega arith), ← same-n 1 (omega arith), ← same-n (childPlace C j) (omega arith), t .tree, first-row,
-                pairs-same C w v (level C w h) (level C v₂ h) n n (j + 1) (count C w n - (j + 1)) (λ a l u. (same-n (rowPlace C a) (omega arith), same-n (childPlace C a) (omega arith), other a l u)));
+                sym (with-same C v₁ v₂ (level C v₂ h) n (t .beside n (omega (arith, parts n, one n, occ-self n))) (trimmed-few C P v hd n j e inside lose-v few-v))
+                ∙ trimmed-with C P v hd n j e inside lose-v few-v (level C v₂ h)
+                ∙ rw (
+                  ← same-n 0 (omega arith),
+                  ← same-n 3 (omega arith),
+                  ← same-n 1 (omega arith),
+                  ← same-n (childPlace C j) (omega arith),
+                  t .tree,
+                  first-row,
+                  pairs-same C w v (level C w h) (level C v₂ h) n n (j + 1) (count C w n - (j + 1)) (λ a l u. (same-n (rowPlace C a) (omega arith), same-n (childPlace C a) (omega arith), other a l u)),
+                );
             header = t .header;
-            beside = λ m z i q. to-v₁ m (λ d. absurd (omega (arith, parts m, subst (λ (k : ℕ). occ m (k ∷ []) ≡ 1) d (occ-self m)))) i q ∙ t .beside m (omega (arith, parts m)) i q }
+            beside = λ m z i q. to-v₁ m (λ d. absurd (omega (arith, parts m, subst (λ (k : ℕ). occ m (k ∷ []) ≡ 1) d (occ-self m)))) i q ∙ t .beside m (omega (arith, parts m)) i q;
+          }
 
     -- by the law one level down
     by-law : PathLaw h → Narrow C h (level C w h (child C w n j)) → cut h e (level C w h (child C w n j)) (row C w n j) ≡ stays x
@@ -135,8 +143,8 @@ module _ (C P e : ℕ) (w : List ℕ) where
     by-law law nar is =
         node-case (trimAll C (trimmed C v n j e) e (trims h e (level C w h (child C w n j)) (row C w n j)))
         (law (child C w n j) (row C w n j) (next others (last h (end C w n) b)) (trimmed C v n j e) x (trimmed-header C P v hd n j e inside lose-v few-v) nar is sound-x
-          (λ m. omega (arith, parts m, one m))
-          (λ m p i q. same m (omega (arith, parts m)) i q ∙ to-v₁ m (not-n m (omega arith)) i q))
+        (λ m. omega (arith, parts m, one m))
+        (λ m p i q. same m (omega (arith, parts m)) i q ∙ to-v₁ m (not-n m (omega arith)) i q))
 
   trim-nil : (h : ℕ) (t : Level (suc h)) (ps : List (ℕ × Level h)) → ps ≡ [] → trim e t ps ≡ gone
   unfolding trim
@@ -165,7 +173,7 @@ module _ (C P e : ℕ) (w : List ℕ) where
       → ((m : ℕ) → occ m (nodes (suc h) y) ≤ 1) → ((m : ℕ) → 0 < occ m (nodes (suc h) y) → Same C w v m)
       → SpotAt C w (level C w h) n e (cut h e) 0 (count C w n)
       → Trimmed C P (suc h) n v (trimAll C v e ((n, length (pairsFrom C w (level C w h) n 0 (count C w n)) - length (cutPairs e (cut h e) (pairsFrom C w (level C w h) n 0 (count C w n))))
-          ∷ trimsPairs (cut h e) (trims h e) (pairsFrom C w (level C w h) n 0 (count C w n)))) y
+      ∷ trimsPairs (cut h e) (trims h e) (pairsFrom C w (level C w h) n 0 (count C w n)))) y
   unfolding trimAll level
   at-spot h law n r b v y hd nar l p sounds one same s =
       let j = s .place in
@@ -176,9 +184,9 @@ module _ (C P e : ℕ) (w : List ℕ) where
       let q : trimmedNode h n j (s .what) ≡ y = stays-is (trimmedNode h n j (s .what)) y (sym (trim-some h (level C w (suc h) n) ps (upTo e (row C w n j), s .what) _ cs) ∙ p) in
       rw (lost h n (upTo e (row C w n j), s .what) j u ps cs, s .trimmed-in (trims h e))
       (subst (λ (t : Level (suc h)). AllSound C P (suc h) t e b → ((m : ℕ) → occ m (nodes (suc h) t) ≤ 1) → ((m : ℕ) → 0 < occ m (nodes (suc h) t) → Same C w v m)
-          → Trimmed C P (suc h) n v (trimAll C (trimmed C v n j e) e (trims h e (level C w h (child C w n j)) (row C w n j))) t) q
-        (λ g o sm. by-law h n j (s .what) b v hd (node-few h n nar) u g o sm law (child-narrow h n j nar u) (s .is))
-        sounds one same)
+      → Trimmed C P (suc h) n v (trimAll C (trimmed C v n j e) e (trims h e (level C w h (child C w n j)) (row C w n j))) t) q
+      (λ g o sm. by-law h n j (s .what) b v hd (node-few h n nar) u g o sm law (child-narrow h n j nar u) (s .is))
+      sounds one same)
 
   -- the law
   pub path-trim : (h : ℕ) → PathLaw h
@@ -188,10 +196,12 @@ module _ (C P e : ℕ) (w : List ℕ) where
   path-trim (suc h) n r b v y hd nar p sounds one same =
       by-test (ltb r e)
       (λ u. let p₂ = rw u at p in
-        rw u (spot C w (level C w h) n e (cut h e) 0 (count C w n)
-          (λ q. gone-not y (sym (trim-nil h (level C w (suc h) n) _ q) ∙ p₂))
-          (at-spot h (path-trim h) n r b v y hd nar (ltb-true r e u) p₂ (rw u at sounds) one same)))
+      rw u (spot C w (level C w h) n e (cut h e) 0 (count C w n)
+      (λ q. gone-not y (sym (trim-nil h (level C w (suc h) n) _ q) ∙ p₂))
+      (at-spot h (path-trim h) n r b v y hd nar (ltb-true r e u) p₂ (rw u at sounds) one same)))
       (λ u. let q : level C w (suc h) n ≡ y = stays-is (level C w (suc h) n) y (rw u at p) in
-        rw u (record {
-          tree = sym (kept C w v (suc h) n nar (λ m z. same m (subst (λ (t : Level (suc h)). 0 < occ m (nodes (suc h) t)) q z))) ∙ q;
-          header = hd; beside = λ m z i k. refl }))
+      rw u (record {
+        tree = sym (kept C w v (suc h) n nar (λ m z. same m (subst (λ (t : Level (suc h)). 0 < occ m (nodes (suc h) t)) q z))) ∙ q;
+        header = hd;
+        beside = λ m z i k. refl;
+      }))

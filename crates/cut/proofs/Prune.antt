@@ -67,7 +67,7 @@ module _ (C P : ℕ) (w : List ℕ) (h : ℕ) (ns : List ℕ) (l : Ledger) (form
     by-ranges =
         ap (ranOut e)
         (fresh e r 0 (entries (suc h) tree r Open) (sound-starts C P (suc h) tree r Open (well-sound C P (suc h) tree r Open well)) ids some
-          ∙ ap (λ (es : List Entry). run e es (on ids 0 r)) holds)
+        ∙ ap (λ (es : List Entry). run e es (on ids 0 r)) holds)
 
     follow : (c : Cut) → Told e r 0 ids (l .ranges) c checked → Follows C P w h r ns e ids c call
     unfolding Told Follows pruneScanned
@@ -82,14 +82,14 @@ module _ (C P : ℕ) (w : List ℕ) (h : ℕ) (ns : List ℕ) (l : Ledger) (form
       let asks = asked-blank C P w h r ns formed s e ids b in
       by-test seventh (λ t. rw t (asks ∙ rw t))
       (λ t. by-test (eqb s r)
-        (λ u. rw (t, u, past-all e r ids (l .ranges) (or-false (eqb (length ids) 0) (leb e s) t .0) (sym holds ∙ blank-entries P h tree r b)) (asks ∙ rw (t, u)))
-        (λ u. rw (t, u) (asks ∙ rw (t, u))))
+      (λ u. rw (t, u, past-all e r ids (l .ranges) (or-false (eqb (length ids) 0) (leb e s) t .0) (sym holds ∙ blank-entries P h tree r b)) (asks ∙ rw (t, u)))
+      (λ u. rw (t, u) (asks ∙ rw (t, u))))
   answer-by (held g) =
       let asks = asked-held C P w h r ns formed s e ids g in
       by-test seventh (λ t. rw t (asks ∙ rw t))
       (λ t. by-test (eqb s r)
-        (λ u. rw (t, u) (follow g t u (cutFrom e 0 r ids (l .ranges)) (rw (by-ranges g t u) (told e r 0 ids (l .ranges)))))
-        (λ u. rw (t, u) (asks ∙ rw (t, u))))
+      (λ u. rw (t, u) (follow g t u (cutFrom e 0 r ids (l .ranges)) (rw (by-ranges g t u) (told e r 0 ids (l .ranges)))))
+      (λ u. rw (t, u) (asks ∙ rw (t, u))))
 
   -- the answer is the ledger's
   pub prune-answer : Follows C P w h (l .start) ns e ids (ledgerCut l s e ids) (pruneCheckpointPrefix w s e ids)

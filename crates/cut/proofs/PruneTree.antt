@@ -36,7 +36,7 @@ chain-free-all C P w (n ∷ ns) l hd a o c =
     let z : occ n l ≡ 0 = omega (arith, o n, occ-here n ns) in
     rw (reverse-cons n ns, append-assoc)
     (chain-free-all C P (freed C w n) ns (n ∷ l) (header-at C P w (freed C w n) hd (freed-length C w n)) (λ m p. a m (occ-in m n ns p)) (λ m. omega (arith, o m, occ-cons m n l, occ-cons m n ns))
-      (chain-freed C P w hd n (a n (occ-here n ns)) l z c))
+    (chain-freed C P w hd n (a n (occ-here n ns)) l z c))
 
 -- what is known of the words v after a prune that frees ms, with n as the root
 pub record Left (C P : ℕ) (w v : List ℕ) (n : ℕ) (ms ns : List ℕ) (t : Tree) : Type 0 where
@@ -58,7 +58,8 @@ module _ (C P : ℕ) (w u : List ℕ) (n : ℕ) (ms ns : List ℕ) (t : Tree) (h
         header = header-at C P u (freeAll C u ms) hd (free-all-length C u ms);
         words = λ i l a b. free-all-word C u ms i l a b ∙ words i l;
         chain = chain-free-all C P u ms ns hd inside (λ m. omega (arith, apart m)) here;
-        free = omega (arith, free-all-count C P u ms hd, words 4 (omega arith)) }
+        free = omega (arith, free-all-count C P u ms hd, words 4 (omega arith));
+      }
 
 -- an empty root leaf from row e on
 abbrev pub emptyTree : ℕ → ℕ → Tree
@@ -118,9 +119,9 @@ module _ (C P : ℕ) (w : List ℕ) (hd : Header C P w) (h n e r : ℕ) (b : Lim
     prune-reset =
         rw (root-rest C P h e former r b well below lands, all)
         (freed-last C P w (emptied C w n e) n gs ns (emptyTree n e)
-          (header-at C P w (emptied C w n e) hd (emptied-length C w n e)) (empty-root C P w hd n e inside) (empty-narrow C P w hd n e inside)
-          (emptied-word C w n e) (λ m p. emptied-keeps C w n e m (λ q. omega (arith, once-all m, parts m, subst (λ (k : ℕ). occ m (k ∷ []) ≡ 1) q (occ-self m))))
-          (λ m. omega (arith, once-all m, parts m, ap (occ m) (empty-nodes C P w hd n e inside))) (λ m p. all-inside m (omega (arith, parts m))) chain)
+        (header-at C P w (emptied C w n e) hd (emptied-length C w n e)) (empty-root C P w hd n e inside) (empty-narrow C P w hd n e inside)
+        (emptied-word C w n e) (λ m p. emptied-keeps C w n e m (λ q. omega (arith, once-all m, parts m, subst (λ (k : ℕ). occ m (k ∷ []) ≡ 1) q (occ-self m))))
+        (λ m. omega (arith, once-all m, parts m, ap (occ m) (empty-nodes C P w hd n e inside))) (λ m p. all-inside m (omega (arith, parts m))) chain)
 
   module _ (y : Level (suc h)) (stay : cut (suc h) e former r ≡ stays y) where
     -- trimmed, copied
@@ -181,9 +182,9 @@ module _ (C P : ℕ) (w : List ℕ) (hd : Header C P w) (h n e r : ℕ) (b : Lim
         let freeing = gs ++ reverse (copiedNodes h y) in
         rw (root-rest C P h e former r b well below lands, stay)
         (subst (λ (s : ℕ). Left C P w (freeAll C (copyAll C (trimAll C w e (trims (suc h) e former s)) n (copiedNodes h y)) freeing) n freeing ns new) (sym starts-at)
-          (freed-last C P w w₃ n freeing ns new
-            (copies-done .header) (copies-done .tree) (sound-narrow C P (suc (new .0)) (new .1) e b (well-sound C P (suc (new .0)) (new .1) e b new-well))
-            (λ i l. copies-word C w₂ n (copiedNodes h y) i l ∙ trims-word C w e (trims (suc h) e former r) i l)
-            (λ m p i q. trims-done .beside m (omega (arith, once-all m, left-parts m)) i q ∙ copies-done .beside m (not-root m p) i q)
-            (λ m. omega (arith, once-all m, new-parts m, occ-append m gs (reverse (copiedNodes h y)), occ-reverse m (copiedNodes h y)))
-            (λ m p. all-inside m (omega (arith, new-parts m, occ-append m gs (reverse (copiedNodes h y)), occ-reverse m (copiedNodes h y)))) chain))
+        (freed-last C P w w₃ n freeing ns new
+        (copies-done .header) (copies-done .tree) (sound-narrow C P (suc (new .0)) (new .1) e b (well-sound C P (suc (new .0)) (new .1) e b new-well))
+        (λ i l. copies-word C w₂ n (copiedNodes h y) i l ∙ trims-word C w e (trims (suc h) e former r) i l)
+        (λ m p i q. trims-done .beside m (omega (arith, once-all m, left-parts m)) i q ∙ copies-done .beside m (not-root m p) i q)
+        (λ m. omega (arith, once-all m, new-parts m, occ-append m gs (reverse (copiedNodes h y)), occ-reverse m (copiedNodes h y)))
+        (λ m p. all-inside m (omega (arith, new-parts m, occ-append m gs (reverse (copiedNodes h y)), occ-reverse m (copiedNodes h y)))) chain))

@@ -108,4 +108,4 @@ rest-entries C P (suc h) e t r b g =
     by-test (ltb r e)
     (λ u. rw u (trim-case h e t r b (cutPairs e (cut h e) (t .pairs)) (dropTo e (overPairs (entries h) (t .pairs) (last h (t .end) b))) (q .1) (q .0)))
     (λ u. let d = drop-none e r (entries (suc h) t r b) s (ltb-false r e u) in
-      rw (u, d) (refl, starts-some r (entries (suc h) t r b) s))
+    rw (u, d) (refl, starts-some r (entries (suc h) t r b) s))

@@ -42,15 +42,15 @@ unfolding Told cutFrom ranOut run
 told e s p [] gs =
     rw (run-used e (entriesFrom s gs) p s)
     (by-test (eqb s e)
-      (λ t. let q = eqb-true s e t in rw t (ap (on [] p) q ∙ rw add-zero, ap (λ (k : ℕ). entriesFrom k gs) (sym q)))
-      (λ t. rw t refl))
+    (λ t. let q = eqb-true s e t in rw t (ap (on [] p) q ∙ rw add-zero, ap (λ (k : ℕ). entriesFrom k gs) (sym q)))
+    (λ t. rw t refl))
 told e s p (x ∷ ids) [] = rw (no-entries s) refl
 told e s p (x ∷ ids) (g ∷ gs) =
     rw (run-step e s p x ids g gs)
     (by-test (eqb (g .page) x)
     (λ t. by-test (leb (g .end) e)
-      (λ u. rw (t, u) (told-more e s p x ids g gs (cutFrom e (p + 1) (g .end) ids gs) (ranOut e (run e (entriesFrom (g .end) gs) (on ids (p + 1) (g .end)))) (told e (g .end) (p + 1) ids gs)))
-      (λ u. rw (t, u, run-stopped) refl))
+    (λ u. rw (t, u) (told-more e s p x ids g gs (cutFrom e (p + 1) (g .end) ids gs) (ranOut e (run e (entriesFrom (g .end) gs) (on ids (p + 1) (g .end)))) (told e (g .end) (p + 1) ids gs)))
+    (λ u. rw (t, u, run-stopped) refl))
     (λ t. rw (t, run-stopped) refl))
 
 -- no range is left to name
@@ -69,8 +69,8 @@ cut-numbers e p c (x ∷ ids) [] a d = λ q. let z : 11 ≡ a = cc in (omega ari
 cut-numbers e p c (x ∷ ids) (g ∷ gs) a d =
     by-test (eqb (g .page) x)
     (λ t. by-test (leb (g .end) e)
-      (λ u. rw (t, u) (cut-numbers e (p + 1) (g .end) ids gs a d))
-      (λ u. rw (t, u) (λ q. let z : 10 ≡ a = cc in (omega arith, omega arith))))
+    (λ u. rw (t, u) (cut-numbers e (p + 1) (g .end) ids gs a d))
+    (λ u. rw (t, u) (λ q. let z : 10 ≡ a = cc in (omega arith, omega arith))))
     (λ t. rw t (λ q. let z : 9 ≡ a = cc in (omega arith, omega arith)))
 
 pub ledger-numbers : (l : Ledger) (s e : ℕ) (ids : List ℕ) (a d : ℕ) → ledgerCut l s e ids ≡ refuses a d → (7 ≤ a) × (a ≤ 11)
@@ -79,8 +79,8 @@ ledger-numbers l s e ids a d =
     by-test (eqb (length ids) 0 || leb e s)
     (λ t. rw t (λ q. let z : 7 ≡ a = cc in (omega arith, omega arith)))
     (λ t. by-test (eqb s (l .start))
-      (λ u. rw (t, u) (λ q. let n = cut-numbers e 0 (l .start) ids (l .ranges) a d q in (omega (arith, n .0), n .1)))
-      (λ u. rw (t, u) (λ q. let z : 8 ≡ a = cc in (omega arith, omega arith))))
+    (λ u. rw (t, u) (λ q. let n = cut-numbers e 0 (l .start) ids (l .ranges) a d q in (omega (arith, n .0), n .1)))
+    (λ u. rw (t, u) (λ q. let z : 8 ≡ a = cc in (omega arith, omega arith))))
 
 -- entries that follow each other are ranges
 pub run-ranges : (r : ℕ) (es : List Entry) (z : ℕ) → Run r es z → (gs : List Range) × (es ≡ entriesFrom r gs)

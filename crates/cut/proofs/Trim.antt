@@ -67,11 +67,11 @@ module _ (C P n k : ℕ) (inside : n < P) where
   moved-at w i (suc m) hd f a l u =
       rw (moved-step w i m)
       (⊎-elim
-        (λ (e : i ≡ a). rw (← e)
-          (moved-other (step w i) (i + 1) m _ (λ c v z. (omega arith, omega arith)) ∙ step-row w i hd (omega arith), moved-other (step w i) (i + 1) m _ (λ c v z. (omega arith, omega arith)) ∙ step-child w i hd (omega arith)))
-        (λ (h : i < a). let q = moved-at (step w i) (i + 1) m (step-header w i hd) (omega arith) a (omega arith) (omega arith) in
-          (q .0 ∙ step-other w i _ (omega arith) (omega arith), q .1 ∙ step-other w i _ (omega arith) (omega arith)))
-        (eq-or-lt-of-le l))
+      (λ (e : i ≡ a). rw (← e)
+      (moved-other (step w i) (i + 1) m _ (λ c v z. (omega arith, omega arith)) ∙ step-row w i hd (omega arith), moved-other (step w i) (i + 1) m _ (λ c v z. (omega arith, omega arith)) ∙ step-child w i hd (omega arith)))
+      (λ (h : i < a). let q = moved-at (step w i) (i + 1) m (step-header w i hd) (omega arith) a (omega arith) (omega arith) in
+      (q .0 ∙ step-other w i _ (omega arith) (omega arith), q .1 ∙ step-other w i _ (omega arith) (omega arith)))
+      (eq-or-lt-of-le l))
 
 -- entries that stand k places on
 pub pairs-shift : {K : Type 0} (C : ℕ) (v w : List ℕ) (f g : ℕ → K) (n k i m : ℕ)
@@ -117,7 +117,7 @@ module _ (C P : ℕ) (w : List ℕ) (hd : Header C P w) (n k e : ℕ) (inside : 
   unfolding m₀ m₁ m₂
   trimmed-node x d j b =
       rw is-trimmed (moved-node C P n k inside w 0 (count C w n - k) x (omega arith) d j b ∙ put-keeps C m₀ n x 1 (count C w n - k) d (omega arith) j b
-        ∙ put-keeps C m₁ n x 2 e d (omega arith) j b ∙ put-keeps C m₂ n x 4 e d (omega arith) j b)
+      ∙ put-keeps C m₁ n x 2 e d (omega arith) j b ∙ put-keeps C m₂ n x 4 e d (omega arith) j b)
 
   -- a word that is none of the three written last
   other : (j : ℕ) → j ≢ 1 → j ≢ 2 → j ≢ rowPlace C 0 → part C (trimmed C w n k e) n j ≡ part C m₀ n j
@@ -156,8 +156,14 @@ module _ (C P : ℕ) (w : List ℕ) (hd : Header C P w) (n k e : ℕ) (inside : 
   unfolding pairsFrom
   trimmed-pairs f =
       let s : count C w n - k ≡ suc (count C w n - (k + 1)) = omega arith in
-      rw (s, t-first, t-child 0 (omega arith), add-zero, zero-add,
-        pairs-shift C (trimmed C w n k e) w f f n k 1 (count C w n - (k + 1)) (λ a l u. (t-row a (omega arith) (omega arith), t-child a (omega arith), refl)))
+      rw (
+        s,
+        t-first,
+        t-child 0 (omega arith),
+        add-zero,
+        zero-add,
+        pairs-shift C (trimmed C w n k e) w f f n k 1 (count C w n - (k + 1)) (λ a l u. (t-row a (omega arith) (omega arith), t-child a (omega arith), refl)),
+      )
 
   pub trimmed-with : {K : Type 0} (f : ℕ → K) → nodeWith C (trimmed C w n k e) f n
       ≡ record { number = n; height = height C w n; start = e; end = end C w n; pairs = (e, f (child C w n k)) ∷ pairsFrom C w f n (k + 1) (count C w n - (k + 1)) }

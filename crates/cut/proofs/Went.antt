@@ -7,6 +7,7 @@ use Rattle.model.specs.Tree.{Level}
 use Rattle.model.specs.Reading.{inPairs, nodes}
 use Rattle.model.specs.Cut.{Rest, gone, stays, ifGone, keep, cutPairs, trim, cut, wentPairs, went}
 use Rattle.model.proofs.Tests.{by-test}
+
 -- the nodes of what is left, for any kind of child
 unfoldable pub ofRest : {K : Type 0} → (K → List ℕ) → Rest K → List ℕ
 ofRest ns gone = []

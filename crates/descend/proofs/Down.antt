@@ -63,16 +63,16 @@ module _ (f : ℕ → ℕ) (C P : ℕ) (w : List ℕ) (n : ℕ) (b : Limit) wher
   path-sound zero m k r c e =
       by-test (ltb k P)
       (λ t. by-test (Tree.sound C 0 (nodeAt C w k) r c)
-        (λ s. let q : leaf k c ≡ leaf n b = rw (t, s) at e in
-          let i : k ≡ n = cc in let d : c ≡ b = cc in
-          record { inside = subst (λ (x : ℕ). x < P) i (ltb-true k P t); row = r; good = subst (λ (y : Limit). Tree.sound C 0 (nodeAt C w n) r y ≡ true) d (subst (λ (x : ℕ). Tree.sound C 0 (nodeAt C w x) r c ≡ true) i s) })
-        (λ s. not-leaf k (rw (t, s) at e)))
+      (λ s. let q : leaf k c ≡ leaf n b = rw (t, s) at e in
+      let i : k ≡ n = cc in let d : c ≡ b = cc in
+      record { inside = subst (λ (x : ℕ). x < P) i (ltb-true k P t); row = r; good = subst (λ (y : Limit). Tree.sound C 0 (nodeAt C w n) r y ≡ true) d (subst (λ (x : ℕ). Tree.sound C 0 (nodeAt C w x) r c ≡ true) i s) })
+      (λ s. not-leaf k (rw (t, s) at e)))
       (λ t. not-leaf m (rw t at e))
   path-sound (suc h) m k r c e =
       by-test (ltb k P)
       (λ t. by-test (Tree.sound C (suc h) (nodeAt C w k) r c)
-        (λ s. path-sound h k (child C w k (f k)) (row C w k (f k)) (nextRow C w k (f k) c) (rw (t, s) at e))
-        (λ s. not-leaf k (rw (t, s) at e)))
+      (λ s. path-sound h k (child C w k (f k)) (row C w k (f k)) (nextRow C w k (f k) c) (rw (t, s) at e))
+      (λ s. not-leaf k (rw (t, s) at e)))
       (λ t. not-leaf m (rw t at e))
 
   -- from the root it may also be the empty root
@@ -82,5 +82,5 @@ module _ (f : ℕ → ℕ) (C P : ℕ) (w : List ℕ) (n : ℕ) (b : Limit) wher
       by-test (emptyRoot C w k)
       (λ t. let q : leaf k Open ≡ leaf n b = rw t at e in let i : k ≡ n = cc in inl (subst (λ (x : ℕ). x < P) i l, subst (λ (x : ℕ). emptyRoot C w x ≡ true) i t))
       (λ t. by-test (leb (height C w k) maxHeight)
-        (λ u. inr (path-sound (height C w k) k k (start C w k) Open (rw (t, u) at e)))
-        (λ u. not-leaf k (rw (t, u) at e)))
+      (λ u. inr (path-sound (height C w k) k k (start C w k) Open (rw (t, u) at e)))
+      (λ u. not-leaf k (rw (t, u) at e)))

@@ -36,9 +36,9 @@ module _ (C : ℕ) (w : List ℕ) (n k : ℕ) (some : 1 ≤ k) (up : T (rising (
         by-test (leb (row C w n low) q)
         (λ t. sym (last-at C w n q k low l (leb-true (row C w n low) q t) f))
         (λ t. z ∙ sym (none k (λ m b. ⊎-elim
-          (λ (e : low ≡ m). subst (λ (x : ℕ). q < row C w n x) e (leb-false (row C w n low) q t))
-          (λ (g : low < m). f m g b)
-          (eq-or-lt-of-le (omega arith)))))
+        (λ (e : low ≡ m). subst (λ (x : ℕ). q < row C w n x) e (leb-false (row C w n low) q t))
+        (λ (g : low < m). f m g b)
+        (eq-or-lt-of-le (omega arith)))))
 
     -- rows from high on are above q
     pub above-from : (high : ℕ) → (k ≤ high) ⊎ (q < row C w n high) → (m : ℕ) → high ≤ m → m < k → q < row C w n m

@@ -30,7 +30,15 @@ pub enum Reached {
 }
 
 // The entry of a sound node n that the path follows.
-pub fn choose(l: Layout, s: &[u64], n: NodeNo, height: u64, row: RowID, next: Limit, toward: Toward) -> u64
+pub fn choose(
+    l: Layout,
+    s: &[u64],
+    n: NodeNo,
+    height: u64,
+    row: RowID,
+    next: Limit,
+    toward: Toward,
+) -> u64
     requires { ⌜ Fits l (now s) ⌝ }
     requires { ⌜ (n .0 < l .pool) × (sound (l .capacity) height (nodeAt (l .capacity) (now s) (n .0)) (row .0) (limitOf next) ≡ true) ⌝ }
     ensures is { λ r. ⌜ r ≡ chooser (l .capacity) (now (s .entry)) toward (n .0) ⌝ }
@@ -44,7 +52,14 @@ pub fn choose(l: Layout, s: &[u64], n: NodeNo, height: u64, row: RowID, next: Li
 }
 
 // From node root of this height, which no entry leads to.
-pub fn find_below(l: Layout, s: &[u64], root: NodeNo, height: u64, row: RowID, toward: Toward) -> Reached
+pub fn find_below(
+    l: Layout,
+    s: &[u64],
+    root: NodeNo,
+    height: u64,
+    row: RowID,
+    toward: Toward,
+) -> Reached
     requires { ⌜ Fits l (now s) ⌝ }
     ensures { λ r. ⌜ reachedOf r ≡ descend (chooser (l .capacity) (now (s .entry)) toward) (l .capacity) (l .pool) (now (s .entry)) height (root .0) (root .0) (row .0) Open ⌝ }
 {

@@ -28,7 +28,7 @@ is-leaf f C P w n b k l e =
     ⊎-elim
     (λ p. let z = empty-of C w n (p .1) in record { inside = p .0; many = omega (arith, z .none); rises = none-rise C w n (count C w n) (z .none) })
     (λ (q : Sound f C P w n b). let t = facts C w n 0 (q .row) b (q .good) in
-      record { inside = q .inside; many = t .many; rises = holds _ (sym (sound-if C w n 0 (q .row) b t) ∙ q .good) })
+    record { inside = q .inside; many = t .many; rises = holds _ (sym (sound-if C w n 0 (q .row) b t) ∙ q .good) })
     (root-sound f C P w n b k l e)
 
 module _ (C : ℕ) (w : List ℕ) (q n : ℕ) (b : Limit) where

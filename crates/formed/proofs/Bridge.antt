@@ -35,8 +35,8 @@ module _ (C P : ℕ) (w : List ℕ) (h n : ℕ) (l : n < P) (s : SoundRoot C P w
   together-once m =
       by-test (ltb 0 (occ m ns))
       (λ t. by-test (ltb 0 (occ m ms))
-        (λ u. absurd (omega (arith, root-low C P w h n m s (ltb-true 0 (occ m ms) u), chain-free C P w m (freeHead w) ns c (ltb-true 0 (occ m ns) t) .1)))
-        (λ u. omega (arith, together m, ltb-false 0 (occ m ms) u, chain-once C P w m (freeHead w) ns c)))
+      (λ u. absurd (omega (arith, root-low C P w h n m s (ltb-true 0 (occ m ms) u), chain-free C P w m (freeHead w) ns c (ltb-true 0 (occ m ns) t) .1)))
+      (λ u. omega (arith, together m, ltb-false 0 (occ m ms) u, chain-once C P w m (freeHead w) ns c)))
       (λ t. omega (arith, together m, ltb-false 0 (occ m ns) t, root-once C P w h n m s))
 
   together-inside : (m : ℕ) → P ≤ m → occ m (ms ++ ns) ≡ 0
@@ -69,14 +69,17 @@ module _ (C P : ℕ) (w : List ℕ) (h : ℕ) where
         chain = F .linked;
         free = sym (F .free);
         cover = λ m. by-test (ltb m P)
-          (λ t. rw t (F .once m (ltb-true m P t)))
-          (λ t. rw t (beyond C P w h n (F .isOpen) (F .sound) (F .chain) (F .linked) m (ltb-false m P t))) }
+            (λ t. rw t (F .once m (ltb-true m P t)))
+            (λ t. rw t (beyond C P w h n (F .isOpen) (F .sound) (F .chain) (F .linked) m (ltb-false m P t)));
+      }
     where
       n : ℕ
       n = root w
+
       whole : SoundRoot C P w h n → Whole C P h (treeOf C w h) (start C w n)
       whole (emptyTree e) = blank (record { leaf = q ∙ e .leaf; inside = F .isOpen; high = e .leaf; none = empty-pairs C w h n e; begin = refl; low = e .low; ends = e .ends })
       whole (soundTree l g) = held (sound-well C P (suc h) (level C w (suc h) n) (start C w n) Open g (F .ends))
+
       high : SoundRoot C P w h n → h ≤ maxHeight
       high (emptyTree e) = omega (arith, q, e .leaf)
       high (soundTree l g) = l
@@ -109,7 +112,8 @@ module _ (C P : ℕ) (w : List ℕ) (h r : ℕ) where
         tall = s .0;
         begin = s .1;
         sound = λ l. soundTree l (subst (λ (x : ℕ). AllSound C P (suc h) (treeOf C w h) x Open) (sym (s .1)) z);
-        ends = subst (λ (x : ℕ). EndsFit (suc h) (treeOf C w h) x Open) (sym (s .1)) (well-ends C P (suc h) (treeOf C w h) r Open g) }
+        ends = subst (λ (x : ℕ). EndsFit (suc h) (treeOf C w h) x Open) (sym (s .1)) (well-ends C P (suc h) (treeOf C w h) r Open g);
+      }
 
   module _ (ns : List ℕ) (F : Formed C P w h r ns) where
     pub formed-root : RootIs
@@ -125,7 +129,8 @@ module _ (C P : ℕ) (w : List ℕ) (h r : ℕ) where
           linked = F .chain;
           free = sym (F .free);
           once = λ m p. F .cover m ∙ ap (λ (t : Bool). pick t 1 0) (lt-ltb m P p);
-          ends = formed-root .ends }
+          ends = formed-root .ends;
+        }
 
     pub well-formed : WellFormed w
     unfolding WellFormed

@@ -42,10 +42,10 @@ module _ (C P : ℕ) (w : List ℕ) where
   chain-once m n (x ∷ ns) c =
       by-test (eqb m x)
       (λ t. let e = eqb-true m x t in
-        by-test (ltb 0 (occ m ns))
-        (λ u. let z = from-in m (count C w x) ns (c .3) (ltb-true 0 (occ m ns) u) in
-          absurd (omega (arith, z .2, ap length (chain-one m (m ∷ z .0) (x ∷ ns) (z .1) (e, c .1, c .2, c .3)))))
-        (λ u. omega (arith, ltb-false 0 (occ m ns) u, occ-cons m x ns, subst (λ (k : ℕ). occ m (k ∷ []) ≡ 1) e (occ-self m))))
+      by-test (ltb 0 (occ m ns))
+      (λ u. let z = from-in m (count C w x) ns (c .3) (ltb-true 0 (occ m ns) u) in
+      absurd (omega (arith, z .2, ap length (chain-one m (m ∷ z .0) (x ∷ ns) (z .1) (e, c .1, c .2, c .3)))))
+      (λ u. omega (arith, ltb-false 0 (occ m ns) u, occ-cons m x ns, subst (λ (k : ℕ). occ m (k ∷ []) ≡ 1) e (occ-self m))))
       (λ t. omega (arith, occ-cons m x ns, occ-other m x (eqb-false m x t), chain-once m (count C w x) ns (c .3)))
 
   -- a node of a chain is in the pool and marked free
@@ -68,9 +68,12 @@ module _ (C P : ℕ) (w : List ℕ) where
   unfolding Chain chainEnds firsts
   follows n zero q = eqb→eq n P q
   follows n (suc k) q =
-      let z = and-l (ltb n P && eqb (height C w n) freeMark) (chainEnds C P w (count C w n) k) q in
-      (refl, ltb→lt n P (and-l (ltb n P) (eqb (height C w n) freeMark) z), eqb→eq (height C w n) freeMark (and-r (ltb n P) (eqb (height C w n) freeMark) z),
-        follows (count C w n) k (and-r (ltb n P && eqb (height C w n) freeMark) (chainEnds C P w (count C w n) k) q))
+      let z = and-l (ltb n P && eqb (height C w n) freeMark) (chainEnds C P w (count C w n) k) q in (
+        refl,
+        ltb→lt n P (and-l (ltb n P) (eqb (height C w n) freeMark) z),
+        eqb→eq (height C w n) freeMark (and-r (ltb n P) (eqb (height C w n) freeMark) z),
+        follows (count C w n) k (and-r (ltb n P && eqb (height C w n) freeMark) (chainEnds C P w (count C w n) k) q),
+      )
 
   pub followed : (n : ℕ) (ns : List ℕ) → Chain C P w n ns → chainEnds C P w n (length ns) ≡ true
   unfolding Chain chainEnds

@@ -94,14 +94,19 @@ module _ (w : List ℕ) where
         linked = c;
         free = long;
         once = counted C P w (height C w n) n l s (firsts C w (freeHead w) k) c (omega (arith, long, eqb→eq (tree + k) P (and-r (chainEnds C P w (freeHead w) k) (eqb (tree + k) P) z)));
-        ends = root-ends C P w n (two .0) }
+        ends = root-ends C P w n (two .0);
+      }
 
   pub accepted : WellFormed w → fullCheck w ≡ result (length (rootEntries (capacity w) w (root w)) ∷ length (rootNodes (capacity w) w (root w)) ∷ freeCount w ∷ [])
   unfolding fullCheck WellFormed
   accepted F =
       goes-on w F (λ (a : Answer). a) opened
-      ∙ rw (sound-root C P w n (F .sound), ends-root C P w n (F .sound) (F .ends),
-        subst (λ (k : ℕ). chainEnds C P w (freeHead w) k ≡ true) (F .free) (followed C P w (freeHead w) (F .chain) (F .linked)), eq-eqb (tree + freeCount w) P (sum w F))
+      ∙ rw (
+        sound-root C P w n (F .sound),
+        ends-root C P w n (F .sound) (F .ends),
+        subst (λ (k : ℕ). chainEnds C P w (freeHead w) k ≡ true) (F .free) (followed C P w (freeHead w) (F .chain) (F .linked)),
+        eq-eqb (tree + freeCount w) P (sum w F),
+      )
 
   -- Refusals: 3 for a closed store, 2 for all else -------------------------------------------------------
 

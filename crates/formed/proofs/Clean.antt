@@ -35,7 +35,7 @@ clean-clear (Enter n ∷ vs) c = clean-clear vs c
 clean-clear (Leave n ∷ vs) c = clean-clear vs c
 clean-clear (Bad n ∷ vs) c = absurd c
 
-clean-append : (a b : List Visit) → clean (a ++ b) ≡ (clean a && clean b)
+pub clean-append : (a b : List Visit) → clean (a ++ b) ≡ (clean a && clean b)
 unfolding clean
 clean-append [] b = refl
 clean-append (Enter n ∷ a) b = clean-append a b
@@ -43,10 +43,10 @@ clean-append (Leave n ∷ a) b = clean-append a b
 clean-append (Bad n ∷ a) b = refl
 
 module _ {K : Type 0} (f : K → ℕ → Limit → List Visit) where
-  abbrev Clean : K → ℕ → Limit → Type 0
+  abbrev pub Clean : K → ℕ → Limit → Type 0
   Clean x r b = T (clean (f x r b))
 
-  clean-all : (ps : List (ℕ × K)) (b : Limit) → T (clean (overPairs f ps b)) → allPairs Clean ps b
+  pub clean-all : (ps : List (ℕ × K)) (b : Limit) → T (clean (overPairs f ps b)) → allPairs Clean ps b
   unfolding overPairs allPairs
   clean-all [] b t = tt
   clean-all (p ∷ ps) b t =
@@ -90,6 +90,7 @@ module _ (C P : ℕ) where
       where
         vs : List Visit
         vs = overPairs (visits ends C P h (t .number)) (t .pairs) (last h (t .end) b)
+
         go : (p s : Bool) → T (clean (pick p (pick s (Enter (t .number) ∷ (vs ++ (Leave (t .number) ∷ []))) (Bad (t .number) ∷ [])) (Bad m ∷ []))) → T p × T s × Below-clean
         go true true c = (tt, tt, clean-all (visits ends C P h (t .number)) (t .pairs) (last h (t .end) b) (and-l (clean vs) true (subst T (clean-append vs (Leave (t .number) ∷ [])) c)))
         go true false c = absurd c
@@ -126,9 +127,12 @@ module _ (C P : ℕ) where
       let s = and-l (sound C 0 t r b) (endFits 0 b (t .end)) (q .1) in
       (q .0, s, and-r (sound C 0 t r b) (endFits 0 b (t .end)) (q .1), leaf-rises C t r b s)
   reads-well (suc h) m t r b c =
-      let q = clean-node true (suc h) m t r b c in
-      (q .0, and-l (sound C (suc h) t r b) (endFits (suc h) b (t .end)) (q .1), and-r (sound C (suc h) t r b) (endFits (suc h) b (t .end)) (q .1),
-        all-map _ (Well C P (suc h)) (reads-well h (t .number)) (t .pairs) b (q .2))
+      let q = clean-node true (suc h) m t r b c in (
+        q .0,
+        and-l (sound C (suc h) t r b) (endFits (suc h) b (t .end)) (q .1),
+        and-r (sound C (suc h) t r b) (endFits (suc h) b (t .end)) (q .1),
+        all-map _ (Well C P (suc h)) (reads-well h (t .number)) (t .pairs) b (q .2),
+      )
 
   pub well-clean : (h m : ℕ) (t : Level h) (r : ℕ) (b : Limit) → Well C P h t r b → T (clean (visits true C P h m t r b))
   unfolding Well passes visits clean
@@ -185,6 +189,6 @@ module _ (C P : ℕ) where
       let vs = overPairs (visits true C P h (t .number)) (t .pairs) (last h (t .end) b) in
       by-test (endFits h b (t .end))
       (λ f. rw (is-true (ltb (t .number) P) (g .0), is-true (sound C h t r b) (g .1), f)
-        (bad-append vs (Leave (t .number) ∷ []) ∙ unless-clear (firstBad vs)
-        ∙ first-pairs (visits true C P h (t .number)) (wrongEnds h) (AllSound C P h) (first-wrong h (t .number)) (t .pairs) (last h (t .end) b) (g .2)))
+      (bad-append vs (Leave (t .number) ∷ []) ∙ unless-clear (firstBad vs)
+      ∙ first-pairs (visits true C P h (t .number)) (wrongEnds h) (AllSound C P h) (first-wrong h (t .number)) (t .pairs) (last h (t .end) b) (g .2)))
       (λ f. rw (is-true (ltb (t .number) P) (g .0), is-true (sound C h t r b) (g .1), f))

@@ -83,7 +83,8 @@ module _ (w : List ℕ) where
       record {
         formed = F;
         begin = refl;
-        entries = sym (whole-ledger (capacity w) (pool w) (height (capacity w) w (root w)) _ (start (capacity w) w (root w)) (formed-of w F .1 .whole)) }
+        entries = sym (whole-ledger (capacity w) (pool w) (height (capacity w) w (root w)) _ (start (capacity w) w (root w)) (formed-of w F .1 .whole));
+      }
 
   pub holds-is : (l : Ledger) → Holds w l → ledgerAt w ≡ l
   holds-is l H =
@@ -111,7 +112,8 @@ module _ (C P : ℕ) (w : List ℕ) (h r : ℕ) (ns : List ℕ) (F : Formed C P 
       record {
         formed = well-formed C P w h r ns F;
         begin = ap (λ (x : ℕ). start x w (root w)) (F .capacity-is) ∙ formed-root C P w h r ns F .begin;
-        entries = formed-entries ∙ e }
+        entries = formed-entries ∙ e;
+      }
 
   pub holds-formed : (l : Ledger) → Holds w l → (l .start ≡ r) × (entries (suc h) (treeOf C w h) r Open ≡ entriesFrom r (l .ranges))
   holds-formed l H =

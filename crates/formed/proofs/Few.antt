@@ -24,8 +24,14 @@ module _ (C P : ℕ) where
   unfolding overPairs inPairs allPairs
   few-pairs f ns Q g [] b a = omega arith
   few-pairs f ns Q g (p ∷ ps) b a =
-      omega (arith, length-append (f (p .1) (p .0) (next ps b)) (overPairs f ps b), g (p .1) (p .0) (next ps b) (a .0), few-pairs f ns Q g ps b (a .1),
-        mul-add C (length (ns (p .1))) (length (inPairs ns ps)), ap (λ (z : ℕ). C * z) (length-append (ns (p .1)) (inPairs ns ps)))
+      omega (
+        arith,
+        length-append (f (p .1) (p .0) (next ps b)) (overPairs f ps b),
+        g (p .1) (p .0) (next ps b) (a .0),
+        few-pairs f ns Q g ps b (a .1),
+        mul-add C (length (ns (p .1))) (length (inPairs ns ps)),
+        ap (λ (z : ℕ). C * z) (length-append (ns (p .1)) (inPairs ns ps)),
+      )
 
   wide : (h : ℕ) (t : Level (suc h)) (r : ℕ) (b : Limit) → AllSound C P (suc h) t r b → length (t .pairs) ≤ C
   unfolding AllSound

@@ -61,7 +61,8 @@ module _ {K : Type 0} (f : K → ℕ → Limit → List Entry) (Q : K → ℕ �
         end = two .end;
         run = run-join (p .0) (q .0) (two .end) (f (p .1) (p .0) (Below (q .0))) (overPairs f (q ∷ ps) b) (subst (λ (z : ℕ). Run (p .0) (f (p .1) (p .0) (Below (q .0))) z) (one .meets) (one .run)) (two .run);
         meets = two .meets;
-        low = two .low }
+        low = two .low;
+      }
 
   begins-linked : (r : ℕ) (ps : List (ℕ × K)) (b : Limit) → Begins r ps → allPairs Q ps b → Linked r (overPairs f ps b) b
   begins-linked r _ b (begins x ps) a = pairs-linked (r, x) ps b a
@@ -75,6 +76,7 @@ sound-linked C P zero t r b g =
       end = t .end;
       run = leaf-begins (t .end) r (t .pairs) C P (sound-begins C 0 t r b (g .1)) (g .2);
       meets = ends-at b (t .end) (s .0) (s .1);
-      low = ends-low b (t .end) (s .0) (s .1) }
+      low = ends-low b (t .end) (s .0) (s .1);
+    }
 sound-linked C P (suc h) t r b g =
     begins-linked (entries (suc h)) (AllSound C P (suc h)) (sound-linked C P h) r (t .pairs) b (sound-begins C (suc h) t r b (g .1)) (g .2)

@@ -34,16 +34,26 @@ module _ (w : List ℕ) where
           cap-high = leb→le (capacity w) 4094 (search (and-l, and-r, z) depth 12);
           pool-low = leb→le 1 (pool w) (search (and-l, and-r, z) depth 12);
           pool-high = leb→le (pool w) 65535 (search (and-l, and-r, z) depth 12);
-          long = eqb→eq (length w) (storeLength (capacity w) (pool w)) (search (and-l, and-r, z) depth 12) };
+          long = eqb→eq (length w) (storeLength (capacity w) (pool w)) (search (and-l, and-r, z) depth 12);
+        };
         root-low = leb→le (root w) (pool w) (search (and-l, and-r, z) depth 12);
         head-low = leb→le (freeHead w) (pool w) (search (and-l, and-r, z) depth 12);
-        count-low = leb→le (freeCount w) (pool w) (search (and-l, and-r, z) depth 12) }
+        count-low = leb→le (freeCount w) (pool w) (search (and-l, and-r, z) depth 12);
+      }
 
   pub header-is : HeaderFits → headerOk w ≡ true
   unfolding headerOk
   header-is H =
-      rw (le-leb 2 (capacity w) (H .fits .cap-low), le-leb (capacity w) 4094 (H .fits .cap-high), le-leb 1 (pool w) (H .fits .pool-low), le-leb (pool w) 65535 (H .fits .pool-high),
-        eq-eqb (length w) (storeLength (capacity w) (pool w)) (H .fits .long), le-leb (root w) (pool w) (H .root-low), le-leb (freeHead w) (pool w) (H .head-low), le-leb (freeCount w) (pool w) (H .count-low))
+      rw (
+        le-leb 2 (capacity w) (H .fits .cap-low),
+        le-leb (capacity w) 4094 (H .fits .cap-high),
+        le-leb 1 (pool w) (H .fits .pool-low),
+        le-leb (pool w) 65535 (H .fits .pool-high),
+        eq-eqb (length w) (storeLength (capacity w) (pool w)) (H .fits .long),
+        le-leb (root w) (pool w) (H .root-low),
+        le-leb (freeHead w) (pool w) (H .head-low),
+        le-leb (freeCount w) (pool w) (H .count-low),
+      )
 
   -- for the code: a header that is refused
   pub header-not : (HeaderFits → ⊥) → headerOk w ≡ false
@@ -65,7 +75,8 @@ module _ (w : List ℕ) where
           fits = F .fits;
           root-low = omega (arith, well-open);
           head-low = chain-low (capacity w) (pool w) w (freeHead w) (F .chain) (F .linked);
-          count-low = omega (arith, sum) })
+          count-low = omega (arith, sum);
+        })
 
     pub not-closed : root w ≢ pool w
     not-closed e = omega (arith, well-open)

@@ -29,7 +29,8 @@ empty-of C w n e =
       leaf = eqb→eq (height C w n) 0 (search (and-l, and-r, z));
       none = eqb→eq (count C w n) 0 (search (and-l, and-r, z));
       low = leb→le (start C w n) rowLimit (search (and-l, and-r, z));
-      ends = eqb→eq (end C w n) NONE (search (and-l, and-r, z)) }
+      ends = eqb→eq (end C w n) NONE (search (and-l, and-r, z));
+    }
 
 module _ (C : ℕ) (w : List ℕ) (h n : ℕ) (e : EmptyRoot C w n) where
   pub empty-pairs : level C w (suc h) n .pairs ≡ []
@@ -67,8 +68,12 @@ pub inside : (C P m : ℕ) → P ≤ m → (h : ℕ) (t : Level h) (r : ℕ) (b 
 unfolding AllSound nodes
 inside C P m l zero t r b g = occ-nil m
 inside C P m l (suc h) t r b g =
-    omega (arith, occ-append m (inPairs (nodes h) (t .pairs)) (t .number ∷ []), none-in m (AllSound C P h) (nodes h) (inside C P m l h) (t .pairs) (last h (t .end) b) (g .2),
-      occ-other m (t .number) (λ e. absurd (omega (arith, ltb→lt (t .number) P (g .0)))))
+    omega (
+      arith,
+      occ-append m (inPairs (nodes h) (t .pairs)) (t .number ∷ []),
+      none-in m (AllSound C P h) (nodes h) (inside C P m l h) (t .pairs) (last h (t .end) b) (g .2),
+      occ-other m (t .number) (λ e. absurd (omega (arith, ltb→lt (t .number) P (g .0)))),
+    )
 
 module _ (C P : ℕ) (w : List ℕ) (h n : ℕ) where
   -- each once, in the pool, not marked free

@@ -66,7 +66,7 @@ pages-append C w (Bad n ∷ a) b = pages-append C w a b
 -- Nodes --------------------------------------------------------------------------------------------------
 
 module _ (C P : ℕ) where
-  left-pairs : {K : Type 0} (f : K → ℕ → Limit → List Visit) (ns : K → List ℕ) (Q : K → ℕ → Limit → Type 0) → ((x : K) (r : ℕ) (b : Limit) → Q x r b → left (f x r b) ≡ ns x)
+  pub left-pairs : {K : Type 0} (f : K → ℕ → Limit → List Visit) (ns : K → List ℕ) (Q : K → ℕ → Limit → Type 0) → ((x : K) (r : ℕ) (b : Limit) → Q x r b → left (f x r b) ≡ ns x)
       → (ps : List (ℕ × K)) (b : Limit) → allPairs Q ps b → left (overPairs f ps b) ≡ inPairs ns ps
   unfolding overPairs inPairs allPairs left
   left-pairs f ns Q g [] b a = refl
@@ -115,8 +115,10 @@ module _ (C P : ℕ) where
     where
       vs : List Visit
       vs = lower ends h m t r b
+
       whole : List Visit
       whole = Enter (t .number) ∷ (vs ++ (Leave (t .number) ∷ []))
+
       go : entered vs ≡ length (left vs) → (p s : Bool) → entered (pick p (pick s whole (Bad (t .number) ∷ [])) (Bad m ∷ [])) ≡ length (left (pick p (pick s whole (Bad (t .number) ∷ [])) (Bad m ∷ [])))
       go e true true = omega (arith, entered-append vs (Leave (t .number) ∷ []), ap length (left-append vs (Leave (t .number) ∷ [])), length-append (left vs) (t .number ∷ []))
       go e true false = refl
@@ -150,12 +152,12 @@ module _ (C P : ℕ) (w : List ℕ) where
       let ps = pairsFrom C w (level C w 0) n 0 (count C w n) in
       ap (pagesIn C w) (sound-visits C P 0 m (level C w 1 n) r b g)
       ∙ rw (leaf-visits C P n ps (last 0 (end C w n) b), eq-eqb (height C w n) 0 (own C P w 0 n r b g .0))
-        (omega (arith, leaf-entries ps (last 0 (end C w n) b), length-pairs C w (level C w 0) n 0 (count C w n)))
+      (omega (arith, leaf-entries ps (last 0 (end C w n) b), length-pairs C w (level C w 0) n 0 (count C w n)))
   pages-entries (suc h) m n r b g =
       let below = lower C P false (suc h) m (level C w (suc (suc h)) n) r b in
       ap (pagesIn C w) (sound-visits C P (suc h) m (level C w (suc (suc h)) n) r b g)
       ∙ rw (ne-eqb (height C w n) 0 (λ e. absurd (omega (arith, own C P w (suc h) n r b g .0))))
-        (omega (arith, pages-append C w below (Leave n ∷ []), pages-pairs (suc h) n 0 (count C w n) (last (suc h) (end C w n) b) (λ m₂ x r₂ a q. pages-entries h m₂ x r₂ a q) (g .2)))
+      (omega (arith, pages-append C w below (Leave n ∷ []), pages-pairs (suc h) n 0 (count C w n) (last (suc h) (end C w n) b) (λ m₂ x r₂ a q. pages-entries h m₂ x r₂ a q) (g .2)))
 
 -- Where ends fit too, both visits are the same -----------------------------------------------------------
 

@@ -58,11 +58,11 @@ covers : (C P : ℕ) (v : List ℕ) (m : ℕ) → 1 ≤ P → count C v 0 ≡ 0 
 covers C P v m p z =
     by-test (eqb m 0)
     (λ t. let e = eqb-true m 0 t in
-      rw (lt-ltb m P (omega arith)) (omega (arith, new-nodes C v m z, subst (λ (j : ℕ). occ m (j ∷ []) ≡ 1) e (occ-self m), below-numbers m 1 (P - 1) (omega arith))))
+    rw (lt-ltb m P (omega arith)) (omega (arith, new-nodes C v m z, subst (λ (j : ℕ). occ m (j ∷ []) ≡ 1) e (occ-self m), below-numbers m 1 (P - 1) (omega arith))))
     (λ t. let d = eqb-false m 0 t in
-      by-test (ltb m P)
-      (λ u. rw u (omega (arith, new-nodes C v m z, occ-other m 0 d, among-numbers m 1 (P - 1) (omega arith) (omega (arith, ltb-true m P u)))))
-      (λ u. rw u (omega (arith, new-nodes C v m z, occ-other m 0 d, above-numbers m 1 (P - 1) (omega (arith, ltb-false m P u))))))
+    by-test (ltb m P)
+    (λ u. rw u (omega (arith, new-nodes C v m z, occ-other m 0 d, among-numbers m 1 (P - 1) (omega arith) (omega (arith, ltb-true m P u)))))
+    (λ u. rw u (omega (arith, new-nodes C v m z, occ-other m 0 d, above-numbers m 1 (P - 1) (omega (arith, ltb-false m P u))))))
 
 -- The writes --------------------------------------------------------------------------------------------
 
@@ -84,7 +84,8 @@ module _ (C P : ℕ) (w : List ℕ) (hd : Header C P w) (n s : ℕ) (inside : n 
         high = put-other C _ n 3 0 _ (omega arith) ∙ put-other C _ n 2 0 _ (omega arith) ∙ put-other C _ n 1 0 _ (omega arith) ∙ put-same C P w hd n 0 0 inside (omega arith);
         none = put-other C _ n 3 1 _ (omega arith) ∙ put-other C _ n 2 1 _ (omega arith) ∙ put-same C P _ h₀ n 1 0 inside (omega arith);
         begin = put-other C _ n 3 2 _ (omega arith) ∙ put-same C P _ h₁ n 2 s inside (omega arith);
-        ends = put-same C P _ h₂ n 3 NONE inside (omega arith) }
+        ends = put-same C P _ h₂ n 3 NONE inside (omega arith);
+      }
 
 module _ (C : ℕ) where
   -- one node of the chain
@@ -115,10 +116,13 @@ module _ (C : ℕ) where
       let u = link w n in
       let h₁ = put-header C P w hd n 0 freeMark in
       let q = chained-keeps u (n + 1) k n (omega arith) in
-      let i : n < P = omega arith in
-      (refl, i, sym (q 0 (omega arith)) ∙ put-other C u₁ n 1 0 (n + 1) (omega arith) ∙ put-same C P w hd n 0 freeMark i (omega arith),
+      let i : n < P = omega arith in (
+        refl,
+        i,
+        sym (q 0 (omega arith)) ∙ put-other C u₁ n 1 0 (n + 1) (omega arith) ∙ put-same C P w hd n 0 freeMark i (omega arith),
         subst (λ (j : ℕ). Chain C P (chained C u (n + 1) k) j (numbers (n + 1) k)) (sym (sym (q 1 (omega arith)) ∙ put-same C P u₁ h₁ n 1 (n + 1) i (omega arith)))
-        (chained-chain P u (n + 1) k (omega arith) (put-header C P u₁ h₁ n 1 (n + 1))))
+            (chained-chain P u (n + 1) k (omega arith) (put-header C P u₁ h₁ n 1 (n + 1))),
+      )
 
 -- The call ----------------------------------------------------------------------------------------------
 
@@ -137,15 +141,16 @@ module _ (C P : ℕ) (w : List ℕ) (s : ℕ) where
         cap-high = leb→le C 4094 (search (and-l, and-r) depth 8);
         pool-low = leb→le 1 P (search (and-l, and-r) depth 8);
         pool-high = leb→le P 65535 (search (and-l, and-r) depth 8);
-        long = eqb→eq (length w) (storeLength C P) (search (and-l, and-r) depth 8) }
+        long = eqb→eq (length w) (storeLength C P) (search (and-l, and-r) depth 8);
+      }
 
   accepted : create w C P s .answer ≡ result [] → Accepted
   unfolding create
   accepted a =
       by-test (capacityOk C && poolOk P && eqb (length w) (storeLength C P))
       (λ t. by-test (leb s rowLimit)
-        (λ u. record { header = header-of t; low = leb-true s rowLimit u; words = rw (t, u) })
-        (λ u. let e : refused 4 0 ≡ result [] = rw (t, u) at a in let z : _≡_ {A = ℕ} 0 1 = cc in absurd (omega arith)))
+      (λ u. record { header = header-of t; low = leb-true s rowLimit u; words = rw (t, u) })
+      (λ u. let e : refused 4 0 ≡ result [] = rw (t, u) at a in let z : _≡_ {A = ℕ} 0 1 = cc in absurd (omega arith)))
       (λ t. let e : refused 1 0 ≡ result [] = rw t at a in let z : _≡_ {A = ℕ} 0 1 = cc in absurd (omega arith))
 
   module _ (hd : Header C P w) where
@@ -190,8 +195,15 @@ module _ (C P : ℕ) (w : List ℕ) (s : ℕ) where
     unfolding level pairsFrom u
     new-blank l =
         subst (λ (n : ℕ). Blank P 0 (level C v 1 n) s) (sym new-root)
-        (record { leaf = refl; inside = omega (arith, hd .pool-low); high = v-empty 0 (omega arith) ∙ E .high; none = ap (pairsFrom C v (level C v 0) 0 0) (v-empty 1 (omega arith) ∙ E .none);
-          begin = v-empty 2 (omega arith) ∙ E .begin; low = l; ends = v-empty 3 (omega arith) ∙ E .ends })
+        (record {
+          leaf = refl;
+          inside = omega (arith, hd .pool-low);
+          high = v-empty 0 (omega arith) ∙ E .high;
+          none = ap (pairsFrom C v (level C v 0) 0 0) (v-empty 1 (omega arith) ∙ E .none);
+          begin = v-empty 2 (omega arith) ∙ E .begin;
+          low = l;
+          ends = v-empty 3 (omega arith) ∙ E .ends;
+        })
 
     new-formed : s ≤ rowLimit → Formed C P v 0 s (numbers 1 (P - 1))
     unfolding v u
@@ -204,7 +216,8 @@ module _ (C P : ℕ) (w : List ℕ) (s : ℕ) where
           high = omega arith;
           chain = subst (λ (n : ℕ). Chain C P v n (numbers 1 (P - 1))) (sym (v-word 3 (omega arith))) (chained-chain C P u 1 (P - 1) (omega (arith, hd .pool-low)) u-header);
           free = v-word 4 (omega arith) ∙ sym (length-numbers 1 (P - 1));
-          cover = λ m. subst (λ (n : ℕ). occ m (nodes 1 (level C v 1 n)) + occ m (numbers 1 (P - 1)) ≡ pick (ltb m P) 1 0) (sym new-root) (covers C P v m (hd .pool-low) (v-empty 1 (omega arith) ∙ E .none)) }
+          cover = λ m. subst (λ (n : ℕ). occ m (nodes 1 (level C v 1 n)) + occ m (numbers 1 (P - 1)) ≡ pick (ltb m P) 1 0) (sym new-root) (covers C P v m (hd .pool-low) (v-empty 1 (omega arith) ∙ E .none));
+        }
 
   -- the law
   pub create-formed : create w C P s .answer ≡ result [] → Formed C P (create w C P s .words) 0 s (numbers 1 (P - 1))

@@ -61,7 +61,8 @@ module _ (C : ℕ) (w : List ℕ) (n h s e x : ℕ) where
             begin = put-other C _ n p 2 _ (omega arith) ∙ put-other C _ n r 2 _ (omega arith) ∙ put-other C _ n 3 2 _ (omega arith) ∙ put-same C P _ h₁ n 2 s inside (omega arith);
             ends = put-other C _ n p 3 _ (omega arith) ∙ put-other C _ n r 3 _ (omega arith) ∙ put-same C P _ h₂ n 3 e inside (omega arith);
             low = put-other C _ n p r _ (omega arith) ∙ put-same C P _ h₃ n r s inside (omega arith);
-            leads = put-same C P _ h₄ n p x inside (omega arith) }
+            leads = put-same C P _ h₄ n p x inside (omega arith);
+          }
 
 module _ (C s e x : ℕ) where
   pub path-word : (w : List ℕ) (ns : List ℕ) (i : ℕ) → i < 8 → word (newPath C w s e x ns) i ≡ word w i

@@ -69,7 +69,8 @@ module _ (C P : ℕ) (w : List ℕ) (hd : Header C P w) (n s e x : ℕ) where
           rows = λ j l. q (rowPlace C j) (omega arith) ∙ stays x (rowPlace C j) (omega arith) (omega arith) (omega arith);
           children = λ j l. q (childPlace C j) (omega arith) ∙ stays x (childPlace C j) (omega arith) (omega arith) (omega arith);
           low = q (rowPlace C (count C w n)) (omega arith) ∙ added-row C w n s x P hd inside space;
-          leads = q (childPlace C (count C w n)) (omega arith) ∙ added-child C w n s x P hd inside space }
+          leads = q (childPlace C (count C w n)) (omega arith) ∙ added-child C w n s x P hd inside space;
+        }
     hang-hangs (m ∷ ns) z =
         let c : 2 ≤ C = hd .cap-low in
         let u = added C w n s m in
@@ -84,7 +85,8 @@ module _ (C P : ℕ) (w : List ℕ) (hd : Header C P w) (n s e x : ℕ) where
           rows = λ j l. q (rowPlace C j) (omega arith) ∙ stays m (rowPlace C j) (omega arith) (omega arith) (omega arith);
           children = λ j l. q (childPlace C j) (omega arith) ∙ stays m (childPlace C j) (omega arith) (omega arith) (omega arith);
           low = q (rowPlace C (count C w n)) (omega arith) ∙ added-row C w n s m P hd inside space;
-          leads = q (childPlace C (count C w n)) (omega arith) ∙ added-child C w n s m P hd inside space }
+          leads = q (childPlace C (count C w n)) (omega arith) ∙ added-child C w n s m P hd inside space;
+        }
 
 pub occ-absent : (m n : ℕ) (l : List ℕ) → occ n l ≡ 0 → 0 < occ m l → m ≢ n
 occ-absent m n l z p e = let q : occ m l ≡ 0 = rw e z in omega arith
@@ -111,10 +113,24 @@ module _ (C P : ℕ) (w : List ℕ) where
         → level C v (suc (up p d)) n ≡ hung d p (level C w (suc (up p d)) n) s e y
     unfolding rightAt hung level last
     hang-level zero p n r b y q a H f =
-        rw (H .high, H .begin, H .ends, H .counts, add-one, pairs-snoc, zero-add, H .low, H .leads, f,
+        rw (
+          H .high,
+          H .begin,
+          H .ends,
+          H .counts,
+          add-one,
+          pairs-snoc,
+          zero-add,
+          H .low,
+          H .leads,
+          f,
           pairs-same C w v (level C w p) (level C v p) n n 0 (count C w n)
-            (λ j l i. (sym (H .rows j (omega arith)), sym (H .children j (omega arith)),
-              child-kept v p n r j b q (omega arith) (λ m z. H .other m (not-below p n r j m b q (omega arith) z) (a m (below-child C P w p n j m (omega arith) z))))))
+              (λ j l i. (
+                sym (H .rows j (omega arith)),
+                sym (H .children j (omega arith)),
+                child-kept v p n r j b q (omega arith) (λ m z. H .other m (not-below p n r j m b q (omega arith) z) (a m (below-child C P w p n j m (omega arith) z))),
+              )),
+        )
     hang-level (suc d) p n r b y q a H f =
         let h = suc (up p d) in
         let i : 0 < count C w n = some-pairs C P w h n r b q in
@@ -126,5 +142,5 @@ module _ (C P : ℕ) (w : List ℕ) where
         (H .other n (λ o. not-below h n r (toRight C w n) x b q (omega arith) (t .0) (sym o)) (a n (omega (arith, nodes-self C w h n n, occ-self n))))
         i (few-pairs C P w h n r b q .0)
         (λ j l. child-kept v h n r j b q (omega arith)
-          (λ m u. H .other m (occ-absent m x (nodes h (level C w h (child C w n j))) (alone C P w h n r b q x j l (t .0)) u) (a m (below-child C P w h n j m (omega arith) u))))
+        (λ m u. H .other m (occ-absent m x (nodes h (level C w h (child C w n j))) (alone C P w h n r b q x j l (t .0)) u) (a m (below-child C P w h n j m (omega arith) u))))
         (hang-level d p k (row C w n (toRight C w n)) b y z (λ m u. a m (below-child C P w h n (toRight C w n) m (omega arith) u)) H f)

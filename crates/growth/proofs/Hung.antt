@@ -38,19 +38,37 @@ module _ (C P : ℕ) where
     unfolding Well Tip last endSound endFits meets
     close zero t r g e =
         let o = soundly C 0 t r Open (g .1) in
-        let a = subst (λ (x : ℕ). allPairs (Well C P 0) (t .pairs) (Below x)) e (g .3) in
-        ((g .0,
-          sound-of C 0 t r (Below s) (record { high = o .high; many = o .many; begin = o .begin;
-            rise = rows-to (Well C P 0) (well-below 0) (endSound 0 Open (t .end)) (endSound 0 (Below s) (t .end)) s
-              (λ l u z. both (ltb l (t .end) && leb (t .end) rowLimit) (eqb (t .end) s) (and-l (ltb l (t .end) && leb (t .end) rowLimit) true z) (subst (λ (x : ℕ). T (eqb (t .end) x)) e (eqb-refl (t .end)))) r (t .pairs) a (o .rise) }),
-          tt, g .3), a)
+        let a = subst (λ (x : ℕ). allPairs (Well C P 0) (t .pairs) (Below x)) e (g .3) in (
+          (
+            g .0,
+            sound-of C 0 t r (Below s) (record {
+              high = o .high;
+              many = o .many;
+              begin = o .begin;
+              rise = rows-to (Well C P 0) (well-below 0) (endSound 0 Open (t .end)) (endSound 0 (Below s) (t .end)) s
+                  (λ l u z. both (ltb l (t .end) && leb (t .end) rowLimit) (eqb (t .end) s) (and-l (ltb l (t .end) && leb (t .end) rowLimit) true z) (subst (λ (x : ℕ). T (eqb (t .end) x)) e (eqb-refl (t .end)))) r (t .pairs) a (o .rise);
+            }),
+            tt,
+            g .3,
+          ),
+          a,
+        )
     close (suc h) t r g e =
         let o = soundly C (suc h) t r Open (g .1) in
-        let a = all-close (Well C P (suc h)) (λ x. Tip h x s) Open (Below s) (λ x k u v. close h x k u v .0) (t .pairs) (g .3) e in
-        ((g .0,
-          sound-of C (suc h) t r (Below s) (record { high = o .high; many = o .many; begin = o .begin;
-            rise = rows-to (Well C P (suc h)) (well-below (suc h)) (endSound (suc h) Open (t .end)) (endSound (suc h) (Below s) (t .end)) s (λ l u z. z) r (t .pairs) a (o .rise) }),
-          or-l (eqb (t .end) NONE) (eqb (t .end) s) (g .2), a), a)
+        let a = all-close (Well C P (suc h)) (λ x. Tip h x s) Open (Below s) (λ x k u v. close h x k u v .0) (t .pairs) (g .3) e in (
+          (
+            g .0,
+            sound-of C (suc h) t r (Below s) (record {
+              high = o .high;
+              many = o .many;
+              begin = o .begin;
+              rise = rows-to (Well C P (suc h)) (well-below (suc h)) (endSound (suc h) Open (t .end)) (endSound (suc h) (Below s) (t .end)) s (λ l u z. z) r (t .pairs) a (o .rise);
+            }),
+            or-l (eqb (t .end) NONE) (eqb (t .end) s) (g .2),
+            a,
+          ),
+          a,
+        )
 
     pub sealed : (h : ℕ) (t : Level (suc h)) (r : ℕ) → Well C P (suc h) t r Open → Tip h t s → allPairs (Well C P h) (t .pairs) (Below s)
     sealed h t r g e = close h t r g e .1
@@ -73,20 +91,30 @@ module _ (C P : ℕ) where
     hung-well zero p t r y g tip room q =
         let o = soundly C p t r Open (g .1) in
         let a = sealed s p t r g tip in
-        let f = end-fits p (t .end) (g .2) in
-        (g .0,
-          sound-of C p (hung 0 p t s e y) r Open (record { high = o .high; many = omega (arith, length-append (t .pairs) ((s, y) ∷ [])); begin = o .begin;
-            rise = rows-snoc (Well C P p) (well-below p) (endSound p Open (t .end)) (endSound p Open (endAt p e (t .end))) s y (f .1) r (t .pairs) a (o .rise) }),
+        let f = end-fits p (t .end) (g .2) in (
+          g .0,
+          sound-of C p (hung 0 p t s e y) r Open (record {
+            high = o .high;
+            many = omega (arith, length-append (t .pairs) ((s, y) ∷ []));
+            begin = o .begin;
+            rise = rows-snoc (Well C P p) (well-below p) (endSound p Open (t .end)) (endSound p Open (endAt p e (t .end))) s y (f .1) r (t .pairs) a (o .rise);
+          }),
           f .0,
-          all-snoc (Well C P p) s y (last p (endAt p e (t .end)) Open) (rw (last-end e p (t .end)) q) (t .pairs) a)
+          all-snoc (Well C P p) s y (last p (endAt p e (t .end)) Open) (rw (last-end e p (t .end)) q) (t .pairs) a,
+        )
     hung-well (suc d) p t r y g tip room q =
         let o = soundly C (suc (up p d)) t r Open (g .1) in
-        let F : Level (suc (up p d)) → Level (suc (up p d)) = λ x. hung d p x s e y in
-        (g .0,
-          sound-of C (suc (up p d)) (hung (suc d) p t s e y) r Open (record { high = o .high; many = rw (length-on-last F (t .pairs)) (o .many); begin = o .begin;
-            rise = rw (rows-on-last (endSound (suc (up p d)) Open (t .end)) F r (t .pairs)) (o .rise) }),
+        let F : Level (suc (up p d)) → Level (suc (up p d)) = λ x. hung d p x s e y in (
+          g .0,
+          sound-of C (suc (up p d)) (hung (suc d) p t s e y) r Open (record {
+            high = o .high;
+            many = rw (length-on-last F (t .pairs)) (o .many);
+            begin = o .begin;
+            rise = rw (rows-on-last (endSound (suc (up p d)) Open (t .end)) F r (t .pairs)) (o .rise);
+          }),
           g .2,
-          all-on-last (Well C P (suc (up p d))) (λ x. Tip (up p d) x s × Roomy C d p x) F Open (λ x k u v. hung-well d p x k y u (v .0) (v .1) q) (t .pairs) (g .3) (at-both (λ x. Tip (up p d) x s) (λ x. Roomy C d p x) (t .pairs) tip room))
+          all-on-last (Well C P (suc (up p d))) (λ x. Tip (up p d) x s × Roomy C d p x) F Open (λ x k u v. hung-well d p x k y u (v .0) (v .1) q) (t .pairs) (g .3) (at-both (λ x. Tip (up p d) x s) (λ x. Roomy C d p x) (t .pairs) tip room),
+        )
 
     -- a path of one-entry nodes
     stalk-end : (ns : List ℕ) → T (endFits (length ns) Open (endOver e ns)) × T (endSound (length ns) Open (endOver e ns) s) × (last (length ns) (endOver e ns) Open ≡ last (length ns) e Open)
@@ -98,11 +126,12 @@ module _ (C P : ℕ) where
     unfolding Well stalk last Under Inside allPairs rows rises next
     stalk-well x [] c i = some
     stalk-well x (n ∷ ns) c i =
-        let f = stalk-end ns in
-        (lt→ltb n P (i .0),
+        let f = stalk-end ns in (
+          lt→ltb n P (i .0),
           sound-of C (length ns) (stalk s e x (n ∷ ns)) s Open (record { high = refl; many = c; begin = refl; rise = both (eqb s s) (endSound (length ns) Open (endOver e ns) s) (eqb-refl s) (f .1) }),
           f .0,
-          (rw (f .2) (stalk-well x ns c (i .1)), tt))
+          (rw (f .2) (stalk-well x ns c (i .1)), tt),
+        )
 
 -- entries and nodes of a path
 module _ (s e x : ℕ) where
@@ -146,5 +175,9 @@ hung-nodes m zero p t s e y tip =
     omega (arith, occ-append m (inPairs (nodes p) (t .pairs ++ ((s, y) ∷ []))) (t .number ∷ []), occ-append m (inPairs (nodes p) (t .pairs)) (t .number ∷ []), occ-last (nodes p) m (t .pairs) (s, y))
 hung-nodes m (suc d) p t s e y tip =
     let F : Level (suc (up p d)) → Level (suc (up p d)) = λ x. hung d p x s e y in
-    omega (arith, occ-append m (inPairs (nodes (suc (up p d))) (onLast F (t .pairs))) (t .number ∷ []), occ-append m (inPairs (nodes (suc (up p d))) (t .pairs)) (t .number ∷ []),
-      occ-on-last (nodes (suc (up p d))) (λ x. Tip (up p d) x s) F m (occ m (nodes p y)) (λ x u. hung-nodes m d p x s e y u) (t .pairs) tip)
+    omega (
+      arith,
+      occ-append m (inPairs (nodes (suc (up p d))) (onLast F (t .pairs))) (t .number ∷ []),
+      occ-append m (inPairs (nodes (suc (up p d))) (t .pairs)) (t .number ∷ []),
+      occ-on-last (nodes (suc (up p d))) (λ x. Tip (up p d) x s) F m (occ m (nodes p y)) (λ x u. hung-nodes m d p x s e y u) (t .pairs) tip,
+    )

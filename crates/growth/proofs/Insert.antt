@@ -37,8 +37,8 @@ to-leaf C P w n k x l b c =
     let o = room C w n in
     by-test (eqb k 0 || ltb rowLimit (s + k)) (λ t. rw t)
     (λ t. by-test (ltb (height C w n) (o .needed) && eqb (height C w n) maxHeight) (λ u. rw (t, u))
-      (λ u. by-test (ltb (freeCount w) (o .needed)) (λ v. rw (t, u, v))
-        (λ v. rw (t, u, v, c (ltb-false (freeCount w) (o .needed) v)))))
+    (λ u. by-test (ltb (freeCount w) (o .needed)) (λ v. rw (t, u, v))
+    (λ v. rw (t, u, v, c (ltb-false (freeCount w) (o .needed) v)))))
 
 empty-needed : (C h : ℕ) (t : Level (suc h)) → h ≡ 0 → t .pairs ≡ [] → 0 < C → needed C h t ≡ 0
 unfolding needed neededFrom
@@ -99,8 +99,8 @@ module _ (C P : ℕ) (w : List ℕ) (h r : ℕ) (ns : List ℕ) (F : Formed C P 
       let words : insertRowPage w k x .words ≡ made k x = ap (λ (o : Outcome). o .words) (insert-told k x) ∙ ap (λ (y : Answer). told w (made k x) y .words) a in
       rw words
       (subst (λ (j : ℕ). Appended C P w (made k x) h r j s (s + k) x ns) i
-        (append-keeps C P w h r ns F s (s + k) x (sym (start-ends C P w h r (F .whole))) (omega (arith, z .0 .some)) (z .0 .most) (omega (arith, z .1))
-          (λ q. omega (arith, z .0 .low (omega arith), F .high))))
+      (append-keeps C P w h r ns F s (s + k) x (sym (start-ends C P w h r (F .whole))) (omega (arith, z .0 .some)) (z .0 .most) (omega (arith, z .1))
+      (λ q. omega (arith, z .0 .low (omega arith), F .high))))
 
   pub insert-refused : (k x c d : ℕ) → insertRowPage w k x .answer ≡ refused c d → insertRowPage w k x .words ≡ w
   insert-refused k x c d e =
@@ -116,9 +116,10 @@ module _ (C P : ℕ) (w : List ℕ) (h r : ℕ) (ns : List ℕ) (F : Formed C P 
 
   -- neither unsound nor closed
   pub insert-never : (k x d : ℕ) → (insertRowPage w k x .answer ≢ refused 2 d) × (insertRowPage w k x .answer ≢ refused 3 d)
-  insert-never k x d =
-      (λ e. ⊎-elim (λ a. omega arith) (λ y. ⊎-elim (λ a. omega arith) (λ z. omega (arith, z .0)) y) (insert-refusals k x 2 d e),
-        λ e. ⊎-elim (λ a. omega arith) (λ y. ⊎-elim (λ a. omega arith) (λ z. omega (arith, z .0)) y) (insert-refusals k x 3 d e))
+  insert-never k x d = (
+    λ e. ⊎-elim (λ a. omega arith) (λ y. ⊎-elim (λ a. omega arith) (λ z. omega (arith, z .0)) y) (insert-refusals k x 2 d e),
+    λ e. ⊎-elim (λ a. omega arith) (λ y. ⊎-elim (λ a. omega arith) (λ z. omega (arith, z .0)) y) (insert-refusals k x 3 d e),
+  )
 
   -- accepted where there is room, and else 5, and 5 only there
   pub insert-room : (k x : ℕ) → Passes k (endRow C w h r) h (wanted C w h) → wanted C w h ≤ length ns

@@ -67,30 +67,32 @@ module _ (C P : ℕ) (w v : List ℕ) (h r k s e x : ℕ) (fs rest : List ℕ) w
 
   finish : Before C P w h r k fs rest → (a : ℕ) (t : Level (suc a)) → Makes a t → Appended C P w (taken C w v k) h r k s e x (fs ++ rest)
   finish B a t M =
-        let z = taken C w v k in
-        let F = B .formed in
-        let one = sums C P w h r k fs rest B in
-        let words₂ : (i : ℕ) → i < 8 → i ≢ 3 → i ≢ 4 → word z i ≡ word w i = λ i l a b. taken-word C w v k i a b ∙ M .words i l in
-        let q : treeOf C z a ≡ t = ap (level C z (suc a)) (words₂ 2 (omega arith) (omega arith) (omega arith)) ∙ all-parts C v z (taken-part C w v k) (suc a) (root w) ∙ M .made in
-        record {
-          above = a;
-          rest = rest;
-          formed = record {
-            capacity-is = words₂ 0 (omega arith) (omega arith) (omega arith) ∙ F .capacity-is;
-            pool-is = words₂ 1 (omega arith) (omega arith) (omega arith) ∙ F .pool-is;
-            header = taken-header C w v k P (M .header);
-            whole = held (subst (λ (y : Level (suc a)). Well C P (suc a) y r Open) (sym q) (M .well));
-            high = M .low;
-            chain = subst (λ (y : ℕ). Chain C P z y rest) (sym (taken-head C w v k P (M .header)))
+      let z = taken C w v k in
+      let F = B .formed in
+      let one = sums C P w h r k fs rest B in
+      let words₂ : (i : ℕ) → i < 8 → i ≢ 3 → i ≢ 4 → word z i ≡ word w i = λ i l a b. taken-word C w v k i a b ∙ M .words i l in
+      let q : treeOf C z a ≡ t = ap (level C z (suc a)) (words₂ 2 (omega arith) (omega arith) (omega arith)) ∙ all-parts C v z (taken-part C w v k) (suc a) (root w) ∙ M .made in
+      record {
+        above = a;
+        rest = rest;
+        formed = record {
+          capacity-is = words₂ 0 (omega arith) (omega arith) (omega arith) ∙ F .capacity-is;
+          pool-is = words₂ 1 (omega arith) (omega arith) (omega arith) ∙ F .pool-is;
+          header = taken-header C w v k P (M .header);
+          whole = held (subst (λ (y : Level (suc a)). Well C P (suc a) y r Open) (sym q) (M .well));
+          high = M .low;
+          chain = subst (λ (y : ℕ). Chain C P z y rest) (sym (taken-head C w v k P (M .header)))
               (chain-same C P w z rest (past C w (freeHead w) k) (λ m p j b. M .other m (omega (arith, one m)) (omega (arith, one m)) j b ∙ sym (taken-part C w v k m j)) (B .chain));
-            free = taken-free C w v k P (M .header) ∙ omega (arith, F .free, B .many, length-append fs rest);
-            cover = λ m. rw q (omega (arith, M .all m, F .cover m, occ-append m fs rest)) };
-          gone = fs;
-          left = refl;
-          many = B .many;
-          tall = M .tall;
-          grew = λ m. rw q (M .all m);
-          more = rw q (M .more) }
+          free = taken-free C w v k P (M .header) ∙ omega (arith, F .free, B .many, length-append fs rest);
+          cover = λ m. rw q (omega (arith, M .all m, F .cover m, occ-append m fs rest));
+        };
+        gone = fs;
+        left = refl;
+        many = B .many;
+        tall = M .tall;
+        grew = λ m. rw q (M .all m);
+        more = rw q (M .more);
+      }
 
 pub up-least : (p d : ℕ) → p ≤ up p d
 up-least p zero = omega arith
@@ -124,7 +126,8 @@ module _ (C P : ℕ) (w : List ℕ) (r k s e x : ℕ) (some : s < e) (most : e �
         well = hung-well C P s e some most d (length fs) t r y g tip (room-at C P w d (length fs) n r Open good space) (stalk-well C P s e some most x fs (omega (arith, hd .cap-low)) (B .inside));
         all = λ j. hung-nodes j d (length fs) t s e y tip ∙ ap (λ (z : ℕ). occ j (nodes (suc h) t) + z) (stalk-nodes s e x j fs);
         more = hung-entries d (length fs) t r s e y tip ∙ ap (λ (z : List Entry). entries (suc h) t r Open ++ z) (stalk-entries s e x fs);
-        other = λ j z f. H .other j (λ o. occ-absent m j (nodes (suc h) t) z (i .0) (sym o)) f })
+        other = λ j z f. H .other j (λ o. occ-absent m j (nodes (suc h) t) z (i .0) (sym o)) f;
+      })
 
   split-case : (c m : ℕ) (ms rest : List ℕ) → length ms < maxHeight → Before C P w (length ms) r k (c ∷ m ∷ ms) rest → Well C P (suc (length ms)) (treeOf C w (length ms)) r Open
       → end C w (rightAt C w (length ms) (root w)) ≡ s
@@ -155,7 +158,8 @@ module _ (C P : ℕ) (w : List ℕ) (r k s e x : ℕ) (some : s < e) (most : e �
         well = parted-well C P s (omega arith) h t r c y (hd .cap-low) (B .inside .0) g tip (stalk-well C P s e some most x (m ∷ ms) (omega (arith, hd .cap-low)) (B .inside .1));
         all = λ j. omega (arith, parted-nodes j h t s c y, stalk-nodes s e x j (m ∷ ms), occ-cons j c (m ∷ ms));
         more = parted-entries h t r s c y tip ∙ ap (λ (l : List Entry). entries (suc h) t r Open ++ l) (stalk-entries s e x (m ∷ ms));
-        other = λ j u f. S .other j (λ o. occ-absent n j (nodes (suc h) t) u i (sym o)) (not-first j c (m ∷ ms) f) (not-rest j c (m ∷ ms) f) })
+        other = λ j u f. S .other j (λ o. occ-absent n j (nodes (suc h) t) u i (sym o)) (not-first j c (m ∷ ms) f) (not-rest j c (m ∷ ms) f);
+      })
 
   blank-made : (n : ℕ) (v : List ℕ) → height C w n ≡ 0 → start C w n ≡ s → count C w n ≡ 0 → Hangs C w v n 0 s e x [] → level C v 1 n ≡ stalk s e x (n ∷ [])
   unfolding level stalk endOver endAt pairsFrom
@@ -191,7 +195,8 @@ module _ (C P : ℕ) (w : List ℕ) (r k s e x : ℕ) (some : s < e) (most : e �
         well = subst (λ (z : ℕ). Well C P 1 (stalk s e x (n ∷ [])) z Open) from (stalk-well C P s e some most x (n ∷ []) (omega (arith, hd .cap-low)) (one-inside n (b .inside)));
         all = λ j. omega (arith, stalk-nodes s e x j (n ∷ []), blank-nodes n j none);
         more = entries-any 0 (stalk s e x (n ∷ [])) r s Open Open ∙ stalk-entries s e x (n ∷ []) ∙ ap (λ (l : List Entry). l ++ ((record { low = s; high = Below e; page = x }) ∷ [])) (sym (blank-entries C P w 0 r b));
-        other = λ j z f. H .other j (λ o. occ-absent n j (nodes 1 (treeOf C w 0)) z (omega (arith, blank-nodes n n none, occ-self n)) (sym o)) f })
+        other = λ j z f. H .other j (λ o. occ-absent n j (nodes 1 (treeOf C w 0)) z (omega (arith, blank-nodes n n none, occ-self n)) (sym o)) f;
+      })
 
 -- the room that the words of a root of height h show
 abbrev pub spot : ℕ → List ℕ → ℕ → Room
@@ -220,7 +225,7 @@ module _ (C P : ℕ) (w : List ℕ) (h r s e x : ℕ) (ns : List ℕ) (F : Forme
       let T = chain-taken C P w (freeHead w) k ns enough (F .chain) in
       rw (u, lt-leb k h (omega arith))
       (subst (λ (l : List ℕ). Appended C P w (taken C w (splitRoot C w (root w) s e x (firsts C w (freeHead w) k)) k) h r k s e x l) (sym (T .whole))
-        (split-any k (firsts C w (freeHead w) k) (T .rest) (T .many) (high (omega arith)) (before k T) g q))
+      (split-any k (firsts C w (freeHead w) k) (T .rest) (T .many) (high (omega arith)) (before k T) g q))
   held-case _ (free d p z space) enough high g u q =
       let T = chain-taken C P w (freeHead w) p ns enough (F .chain) in
       let fs = firsts C w (freeHead w) p in
@@ -228,8 +233,8 @@ module _ (C P : ℕ) (w : List ℕ) (h r s e x : ℕ) (ns : List ℕ) (F : Forme
       let j : up (length fs) d ≡ h = ap (λ (a : ℕ). up a d) (T .many) ∙ z in
       rw (u, le-leb p h (omega (arith, up-least p d)))
       (subst (λ (l : List ℕ). Appended C P w v h r p s e x l) (sym (T .whole))
-        (subst (λ (a : ℕ). Before C P w a r p fs (T .rest) → Well C P (suc a) (treeOf C w a) r Open → end C w (rightAt C w a (root w)) ≡ s → Appended C P w v a r p s e x (fs ++ T .rest))
-          j (λ B g₂ q₂. hang-case C P w r p s e x some most d fs (T .rest) B g₂ q₂ space) (before p T) g q))
+      (subst (λ (a : ℕ). Before C P w a r p fs (T .rest) → Well C P (suc a) (treeOf C w a) r Open → end C w (rightAt C w a (root w)) ≡ s → Appended C P w v a r p s e x (fs ++ T .rest))
+      j (λ B g₂ q₂. hang-case C P w r p s e x some most d fs (T .rest) B g₂ q₂ space) (before p T) g q))
 
 module _ (C P : ℕ) (w : List ℕ) (h r : ℕ) (ns : List ℕ) (F : Formed C P w h r ns) where
   held-start : Well C P (suc h) (treeOf C w h) r Open → appendStart C w (rightAt C w h (root w)) ≡ end C w (rightAt C w h (root w))

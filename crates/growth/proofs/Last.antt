@@ -64,9 +64,19 @@ pub same-but-last : (C : ℕ) (w v : List ℕ) (g n : ℕ) (F : Level g → Leve
     → level C v (suc g) n ≡ record { number = n; height = height C w n; start = start C w n; end = end C w n; pairs = onLast F (pairsFrom C w (level C w g) n 0 (count C w n)) }
 unfolding level
 same-but-last C w v g n F o p u e f =
-    rw (← o 0 (omega arith), ← o 1 (omega arith), ← o 2 (omega arith), ← o 3 (omega arith), last-apart C v (level C v g) n (count C w n) p, last-apart C w (level C w g) n (count C w n) p, on-last,
-      ← o (rowPlace C (count C w n - 1)) (omega arith), ← o (childPlace C (count C w n - 1)) (omega arith), f,
-      pairs-same C w v (level C w g) (level C v g) n n 0 (count C w n - 1) (λ j a b. (o (rowPlace C j) (omega arith), o (childPlace C j) (omega arith), e j (omega arith))))
+    rw (
+      ← o 0 (omega arith),
+      ← o 1 (omega arith),
+      ← o 2 (omega arith),
+      ← o 3 (omega arith),
+      last-apart C v (level C v g) n (count C w n) p,
+      last-apart C w (level C w g) n (count C w n) p,
+      on-last,
+      ← o (rowPlace C (count C w n - 1)) (omega arith),
+      ← o (childPlace C (count C w n - 1)) (omega arith),
+      f,
+      pairs-same C w v (level C w g) (level C v g) n n 0 (count C w n - 1) (λ j a b. (o (rowPlace C j) (omega arith), o (childPlace C j) (omega arith), e j (omega arith))),
+    )
 
 module _ (C P : ℕ) (w : List ℕ) where
   pub few-pairs : (g n r : ℕ) (b : Limit) → AllSound C P (suc g) (level C w (suc g) n) r b → (count C w n ≤ C) × (n < P)

@@ -48,8 +48,18 @@ module _ (C P : ℕ) (w : List ℕ) (h r : ℕ) where
     unfolding headerOk
     header-ok =
         let hd = F .header in
-        rw (F .capacity-is, F .pool-is, le-leb 2 C (hd .cap-low), le-leb C 4094 (hd .cap-high), le-leb 1 P (hd .pool-low), le-leb P 65535 (hd .pool-high), eq-eqb (length w) (storeLength C P) (hd .long),
-          le-leb (root w) P (omega (arith, root-inside)), le-leb (freeHead w) P (chain-low C P w (freeHead w) ns (F .chain)), le-leb (freeCount w) P (omega (arith, F .free, free-few)))
+        rw (
+          F .capacity-is,
+          F .pool-is,
+          le-leb 2 C (hd .cap-low),
+          le-leb C 4094 (hd .cap-high),
+          le-leb 1 P (hd .pool-low),
+          le-leb P 65535 (hd .pool-high),
+          eq-eqb (length w) (storeLength C P) (hd .long),
+          le-leb (root w) P (omega (arith, root-inside)),
+          le-leb (freeHead w) P (chain-low C P w (freeHead w) ns (F .chain)),
+          le-leb (freeCount w) P (omega (arith, F .free, free-few)),
+        )
 
 module _ (C P : ℕ) (w : List ℕ) where
   -- a sound node is passed

@@ -36,11 +36,17 @@ module _ (C P s : ℕ) (most : s ≤ rowLimit) where
   unfolding Well renamed
   renamed-well h t r c i g tip =
       let o = soundly C h t r Open (g .1) in
-      let a = sealed C P s h t r g tip in
-      (lt→ltb c P i,
-        sound-of C h (renamed h t c s) r (Below s) (record { high = o .high; many = o .many; begin = o .begin;
-          rise = rows-to (Well C P h) (well-below C P h) (endSound h Open (t .end)) (endSound h (Below s) s) s (λ l u z. end-below h l u) r (t .pairs) a (o .rise) }),
-        fits-below h, rw (last-below s h) a)
+      let a = sealed C P s h t r g tip in (
+        lt→ltb c P i,
+        sound-of C h (renamed h t c s) r (Below s) (record {
+          high = o .high;
+          many = o .many;
+          begin = o .begin;
+          rise = rows-to (Well C P h) (well-below C P h) (endSound h Open (t .end)) (endSound h (Below s) s) s (λ l u z. end-below h l u) r (t .pairs) a (o .rise);
+        }),
+        fits-below h,
+        rw (last-below s h) a,
+      )
 
   -- the law
   pub parted-well : (h : ℕ) (t : Level (suc h)) (r c : ℕ) (y : Level (suc h)) → 2 ≤ C → c < P → Well C P (suc h) t r Open → Tip h t s → Well C P (suc h) y s Open
@@ -49,11 +55,17 @@ module _ (C P s : ℕ) (most : s ≤ rowLimit) where
   parted-well h t r c y two i g tip q =
       let o = soundly C h t r Open (g .1) in
       let k = renamed-well h t r c i g tip in
-      let l : r < s = well-below C P (suc h) (renamed h t c s) r (Below s) k in
-      (g .0,
-        sound-of C (suc h) (parted h t c s y) r Open (record { high = refl; many = two; begin = o .begin;
-          rise = both (eqb (t .start) r) (ltb (t .start) s && true) (subst (λ (x : ℕ). T (eqb (t .start) x)) (o .begin) (eqb-refl (t .start))) (both (ltb (t .start) s) true (lt→ltb (t .start) s (omega (arith, o .begin))) tt) }),
-        tt, (subst (λ (x : ℕ). Well C P (suc h) (renamed h t c s) x (Below s)) (sym (o .begin)) k, (q, tt)))
+      let l : r < s = well-below C P (suc h) (renamed h t c s) r (Below s) k in (
+        g .0,
+        sound-of C (suc h) (parted h t c s y) r Open (record {
+          high = refl;
+          many = two;
+          begin = o .begin;
+          rise = both (eqb (t .start) r) (ltb (t .start) s && true) (subst (λ (x : ℕ). T (eqb (t .start) x)) (o .begin) (eqb-refl (t .start))) (both (ltb (t .start) s) true (lt→ltb (t .start) s (omega (arith, o .begin))) tt);
+        }),
+        tt,
+        (subst (λ (x : ℕ). Well C P (suc h) (renamed h t c s) x (Below s)) (sym (o .begin)) k, (q, tt)),
+      )
 
 pub parted-entries : (h : ℕ) (t : Level (suc h)) (r s c : ℕ) (y : Level (suc h)) → Tip h t s
     → entries (suc (suc h)) (parted h t c s y) r Open ≡ entries (suc h) t r Open ++ entries (suc h) y s Open

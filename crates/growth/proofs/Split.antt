@@ -72,7 +72,8 @@ module _ (C : ℕ) (w : List ℕ) (n c s m : ℕ) where
           low₀ = put-other C _ n p₁ r₀ _ (omega arith) ∙ put-other C _ n r₁ r₀ _ (omega arith) ∙ put-other C _ n p₀ r₀ _ (omega arith) ∙ put-same C P _ h₃ n r₀ _ inside (omega arith);
           leads₀ = put-other C _ n p₁ p₀ _ (omega arith) ∙ put-other C _ n r₁ p₀ _ (omega arith) ∙ put-same C P _ h₄ n p₀ c inside (omega arith);
           low₁ = put-other C _ n p₁ r₁ _ (omega arith) ∙ put-same C P _ h₅ n r₁ s inside (omega arith);
-          leads₁ = put-same C P _ h₆ n p₁ m inside (omega arith) }
+          leads₁ = put-same C P _ h₆ n p₁ m inside (omega arith);
+        }
 
 -- what splitting does to the words; ns are the nodes of the new path
 pub record Splits (C : ℕ) (w v : List ℕ) (n c s m : ℕ) (ns : List ℕ) : Type 0 where
@@ -137,7 +138,9 @@ module _ (C : ℕ) (w : List ℕ) (n s e x c : ℕ) (ns : List ℕ) where
             low₀ = root (rowPlace C 0) (omega arith) ∙ R .low₀ ∙ sym (keeps₁ n apart 2 (omega arith));
             leads₀ = root (childPlace C 0) (omega arith) ∙ R .leads₀;
             low₁ = root (rowPlace C 1) (omega arith) ∙ R .low₁;
-            leads₁ = root (childPlace C 1) (omega arith) ∙ R .leads₁ } }
+            leads₁ = root (childPlace C 1) (omega arith) ∙ R .leads₁;
+          };
+        }
 
 module _ (C P : ℕ) (w v : List ℕ) (n c s m : ℕ) (ns : List ℕ) (h r : ℕ) (b : Limit) (q : AllSound C P (suc h) (level C w (suc h) n) r b)
     (free : (k : ℕ) → 0 < occ k (nodes (suc h) (level C w (suc h) n)) → occ k (c ∷ ns) ≡ 0) (S : Splits C w v n c s m ns) where
@@ -146,12 +149,20 @@ module _ (C P : ℕ) (w v : List ℕ) (n c s m : ℕ) (ns : List ℕ) (h r : ℕ
   unfolding level renamed
   copy-level =
       let u = few-pairs C P w h n r b q .0 in
-      rw (S .copy 0 (omega arith) (omega arith), S .copy 1 (omega arith) (omega arith), S .copy 2 (omega arith) (omega arith), S .ends,
+      rw (
+        S .copy 0 (omega arith) (omega arith),
+        S .copy 1 (omega arith) (omega arith),
+        S .copy 2 (omega arith) (omega arith),
+        S .ends,
         pairs-same C w v (level C w h) (level C v h) n c 0 (count C w n)
-          (λ j l i. (sym (S .copy (rowPlace C j) (omega arith) (omega arith)), sym (S .copy (childPlace C j) (omega arith) (omega arith)),
-            child-kept C P w v h n r j b q (omega arith)
-              (λ k z. let f = free k (below-child C P w h n j k (omega arith) z) in
-                S .other k (not-below C P w h n r j k b q (omega arith) z) (not-first k c ns f) (not-rest k c ns f)))))
+            (λ j l i. (
+              sym (S .copy (rowPlace C j) (omega arith) (omega arith)),
+              sym (S .copy (childPlace C j) (omega arith) (omega arith)),
+              child-kept C P w v h n r j b q (omega arith)
+                  (λ k z. let f = free k (below-child C P w h n j k (omega arith) z) in
+                  S .other k (not-below C P w h n r j k b q (omega arith) z) (not-first k c ns f) (not-rest k c ns f)),
+            )),
+      )
 
   -- the law
   pub split-level : (y : Level (suc h)) → level C v (suc h) m ≡ y → level C v (suc (suc h)) n ≡ parted h (level C w (suc h) n) c s y

@@ -30,16 +30,19 @@ module _ (k s h n free : ℕ) where
   passes : (eqb k 0 || ltb rowLimit (s + k)) ≡ false → (ltb h n && eqb h maxHeight) ≡ false → Passes k s h n
   passes t u =
       let a = or-none (eqb k 0) (ltb rowLimit (s + k)) t in
-      record { some = omega (arith, eqb-false k 0 (a .0)); most = ltb-false rowLimit (s + k) (a .1);
-        low = λ l. eqb-false h maxHeight (and-none (ltb h n) (eqb h maxHeight) u (lt-ltb h n l)) }
+      record {
+        some = omega (arith, eqb-false k 0 (a .0));
+        most = ltb-false rowLimit (s + k) (a .1);
+        low = λ l. eqb-false h maxHeight (and-none (ltb h n) (eqb h maxHeight) u (lt-ltb h n l));
+      }
 
   pub ruled : Ruled (verdict k s h n free)
   unfolding verdict
   ruled =
       by-test (eqb k 0 || ltb rowLimit (s + k)) (λ t. rw t four)
       (λ t. by-test (ltb h n && eqb h maxHeight) (λ u. rw (t, u) six)
-        (λ u. by-test (ltb free n) (λ v. rw (t, u, v) (five (passes t u) (ltb-true free n v)))
-          (λ v. rw (t, u, v) (fine (passes t u) (ltb-false free n v)))))
+      (λ u. by-test (ltb free n) (λ v. rw (t, u, v) (five (passes t u) (ltb-true free n v)))
+      (λ v. rw (t, u, v) (fine (passes t u) (ltb-false free n v)))))
 
   -- the tests that pass
   passed-four : Passes k s h n → (eqb k 0 || ltb rowLimit (s + k)) ≡ false

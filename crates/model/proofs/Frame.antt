@@ -81,11 +81,12 @@ nodes-self C w h n m = occ-append m (inPairs (nodes h) (pairsFrom C w (level C w
 pub agree : (C : ℕ) (w v : List ℕ) (h n : ℕ) → Narrow C h (level C w h n) → ((m : ℕ) → 0 < occ m (nodes h (level C w h n)) → Same C w v m) → Agree C w v h n
 unfolding Agree Narrow level
 agree C w v zero n a s = tt
-agree C w v (suc h) n a s =
-    (omega (arith, a .0, length-pairs C w (level C w h) n 0 (count C w n)),
-      s n (omega (arith, nodes-self C w h n n, occ-self n)),
-      λ i l. agree C w v h (child C w n i) (all-child C w (level C w h) n (λ x r b. Narrow C h x) 0 (count C w n) Open (a .1) i (omega arith) (omega arith) .1)
-        (λ m z. s m (omega (arith, nodes-self C w h n m, occ-child C w (level C w h) n (nodes h) m 0 (count C w n) i (omega arith) (omega arith)))))
+agree C w v (suc h) n a s = (
+  omega (arith, a .0, length-pairs C w (level C w h) n 0 (count C w n)),
+  s n (omega (arith, nodes-self C w h n n, occ-self n)),
+  λ i l. agree C w v h (child C w n i) (all-child C w (level C w h) n (λ x r b. Narrow C h x) 0 (count C w n) Open (a .1) i (omega arith) (omega arith) .1)
+      (λ m z. s m (omega (arith, nodes-self C w h n m, occ-child C w (level C w h) n (nodes h) m 0 (count C w n) i (omega arith) (omega arith)))),
+)
 
 -- the frame law
 pub kept : (C : ℕ) (w v : List ℕ) (h n : ℕ) → Narrow C h (level C w h n) → ((m : ℕ) → 0 < occ m (nodes h (level C w h n)) → Same C w v m) → level C w h n ≡ level C v h n

@@ -47,10 +47,11 @@ module _ (C P : ℕ) (w : List ℕ) (q : ℕ) where
         place = here;
         stands = forth-stands C w n q 0 k low;
         chosen =
-          ap (λ (c : ℕ). fromPairs (findAt h q) (pairsFrom C w (level C w h) n 0 c) B q) e
-          ∙ ap (λ (c : Chosen (Level h)). findAt h q (c .what) (c .low) (c .high)) (choose-at C w n q (level C w h) B 0 k)
-          ∙ rw (here, long);
-        rise = λ a c m u. risen C w n (level C w h) z 0 k s a c (omega arith) m (omega (arith, e)) }
+            ap (λ (c : ℕ). fromPairs (findAt h q) (pairsFrom C w (level C w h) n 0 c) B q) e
+            ∙ ap (λ (c : Chosen (Level h)). findAt h q (c .what) (c .low) (c .high)) (choose-at C w n q (level C w h) B 0 k)
+            ∙ rw (here, long);
+        rise = λ a c m u. risen C w n (level C w h) z 0 k s a c (omega arith) m (omega (arith, e));
+      }
 
   at : (h n r : ℕ) (b : Limit) → AllSound C P (suc h) (level C w (suc h) n) r b → r ≤ q → At h n r b
   unfolding AllSound level
@@ -91,8 +92,8 @@ module _ (C P : ℕ) (w : List ℕ) (q : ℕ) where
       let j = toRow C w q n in
       by-test (ltb (j + 1) (count C w n))
       (λ t. let s = subst (λ (x : ℕ). Stands C w n q 0 (a .more) x) (sym (a .place)) (a .stands) in
-        let u : q < row C w n (j + 1) = s .past (omega (arith, ltb-true (j + 1) (count C w n) t, a .many)) in
-        rw (t, lt-ltb q (row C w n (j + 1)) u, lt-ltb q (end C w n) (omega (arith, below-end n r b g l (j + 1) (ltb-true (j + 1) (count C w n) t)))))
+      let u : q < row C w n (j + 1) = s .past (omega (arith, ltb-true (j + 1) (count C w n) t, a .many)) in
+      rw (t, lt-ltb q (row C w n (j + 1)) u, lt-ltb q (end C w n) (omega (arith, below-end n r b g l (j + 1) (ltb-true (j + 1) (count C w n) t)))))
       (λ t. rw t)
 
   hit-is : (x r e : ℕ) (c : Limit) → r ≤ q → under q c ≡ ltb q e → findAt 0 q x r c ≡ pick (ltb q e) (found x) nothing
@@ -160,11 +161,11 @@ module _ (C P : ℕ) (w : List ℕ) (q n : ℕ) where
       let es = rootEntries C w n in
       by-test (ltb q (start C w n))
       (λ t. rw (t, not-empty C P w h n (start C w n) Open g, le-leb h maxHeight u, ← sound-at (level C w h) C w h n (start C w n) Open, is-true (sound C h (level C w (suc h) n) (start C w n) Open) (g .1))
-        (sym (entry-find es q ∙ ap locate (all-left C P q (suc h) (level C w (suc h) n) (start C w n) Open g (ltb-true q (start C w n) t)))))
+      (sym (entry-find es q ∙ ap locate (all-left C P q (suc h) (level C w (suc h) n) (start C w n) Open g (ltb-true q (start C w n) t)))))
       (λ t. rw (t, not-empty C P w h n (start C w n) Open g, le-leb h maxHeight u)
-        (find-path C P w q h n n (start C w n) Open g (ltb-false q (start C w n) t)
-        ∙ ap locate (find-look C P q (suc h) (level C w (suc h) n) (start C w n) Open g (ltb-false q (start C w n) t))
-        ∙ sym (entry-find es q)))
+      (find-path C P w q h n n (start C w n) Open g (ltb-false q (start C w n) t)
+      ∙ ap locate (find-look C P q (suc h) (level C w (suc h) n) (start C w n) Open g (ltb-false q (start C w n) t))
+      ∙ sym (entry-find es q)))
 
   -- the law
   pub find-entries : SoundRoot C P w (height C w n) n → findInTree C P w n q ≡ entryFind (rootEntries C w n) q

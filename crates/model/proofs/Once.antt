@@ -24,9 +24,9 @@ module _ {K : Type 0} (Q : K → ℕ → Limit → Type 0) (below : (x : K) (r :
   pairs-near k (k₂ ∷ ks) b g p =
       by-test (ltb 0 (occ m (ns (k .1))))
       (λ t. let q = near (k .1) (k .0) (Below (k₂ .0)) (g .0) (ltb-true 0 (occ m (ns (k .1))) t) in
-        (q .0, below-trans s (k₂ .0) b (q .1) (chain Q below k₂ ks b (g .1))))
+      (q .0, below-trans s (k₂ .0) b (q .1) (chain Q below k₂ ks b (g .1))))
       (λ t. let q = pairs-near k₂ ks b (g .1) (omega (arith, ltb-false 0 (occ m (ns (k .1))) t, occ-append m (ns (k .1)) (inPairs ns (k₂ ∷ ks)))) in
-        let h : k .0 < k₂ .0 = below (k .1) (k .0) (Below (k₂ .0)) (g .0) in (omega (arith, q .0), q .1))
+      let h : k .0 < k₂ .0 = below (k .1) (k .0) (Below (k₂ .0)) (g .0) in (omega (arith, q .0), q .1))
 
   pairs-once : ((x : K) (r : ℕ) (b : Limit) → Q x r b → occ m (ns x) ≤ 1) → (k : ℕ × K) (ks : List (ℕ × K)) (b : Limit) → allPairs Q (k ∷ ks) b → occ m (inPairs ns (k ∷ ks)) ≤ 1
   unfolding allPairs inPairs next Under
@@ -35,9 +35,9 @@ module _ {K : Type 0} (Q : K → ℕ → Limit → Type 0) (below : (x : K) (r :
       let e = occ-append m (ns (k .1)) (inPairs ns (k₂ ∷ ks)) in
       by-test (ltb 0 (occ m (ns (k .1))))
       (λ t. by-test (ltb 0 (occ m (inPairs ns (k₂ ∷ ks))))
-        (λ u. let q : s < k₂ .0 = near (k .1) (k .0) (Below (k₂ .0)) (g .0) (ltb-true 0 (occ m (ns (k .1))) t) .1 in
-          absurd (omega (arith, q, pairs-near k₂ ks b (g .1) (ltb-true 0 (occ m (inPairs ns (k₂ ∷ ks))) u) .0)))
-        (λ u. omega (arith, e, one (k .1) (k .0) (Below (k₂ .0)) (g .0), ltb-false 0 (occ m (inPairs ns (k₂ ∷ ks))) u)))
+      (λ u. let q : s < k₂ .0 = near (k .1) (k .0) (Below (k₂ .0)) (g .0) (ltb-true 0 (occ m (ns (k .1))) t) .1 in
+      absurd (omega (arith, q, pairs-near k₂ ks b (g .1) (ltb-true 0 (occ m (inPairs ns (k₂ ∷ ks))) u) .0)))
+      (λ u. omega (arith, e, one (k .1) (k .0) (Below (k₂ .0)) (g .0), ltb-false 0 (occ m (inPairs ns (k₂ ∷ ks))) u)))
       (λ t. omega (arith, e, pairs-once one k₂ ks b (g .1), ltb-false 0 (occ m (ns (k .1))) t))
 
 pub occ-other : (m n : ℕ) → m ≢ n → occ m (n ∷ []) ≡ 0
@@ -95,9 +95,9 @@ module _ (C P : ℕ) (w : List ℕ) where
         by-test (eqb m n)
         (λ t. let e = eqb-true m n t in rw e (rw (own g n r b q .1) (omega arith, sound-below C P (suc g) (level C w (suc g) n) r b q)))
         (λ t. let z = near-pairs g (λ x r₂ b₂ hx. subst (λ (y : Level g). 0 < occ m (nodes g y) → (r₂ ≤ start C w m) × Under (start C w m) b₂) (sym (hx .1 .1)) (near g (hx .1 .0) r₂ b₂ (subst (λ (y : Level g). AllSound C P g y r₂ b₂) (hx .1 .1) (hx .0))))
-            r (last g (end C w n) b) (pairsFrom C w (level C w g) n 0 (count C w n)) (first-child g n r b q) (the-pairs g n r b q)
-            (omega (arith, nodes-self C w g n m, occ-other m n (eqb-false m n t))) in
-          (z .0, up g n r (start C w m) b q (z .1)))
+        r (last g (end C w n) b) (pairsFrom C w (level C w g) n 0 (count C w n)) (first-child g n r b q) (the-pairs g n r b q)
+        (omega (arith, nodes-self C w g n m, occ-other m n (eqb-false m n t))) in
+        (z .0, up g n r (start C w m) b q (z .1)))
 
     pairs-some : {K A : Type 0} (Q : K → ℕ → Limit → Type 0) (ns : K → List ℕ) → ((x : K) (r : ℕ) (b : Limit) → Q x r b → 0 < occ m (ns x) → A) → (ks : List (ℕ × K)) (b : Limit) → allPairs Q ks b → 0 < occ m (inPairs ns ks) → A
     unfolding allPairs inPairs
@@ -114,9 +114,9 @@ module _ (C P : ℕ) (w : List ℕ) where
         by-test (eqb m n)
         (λ t. let e = eqb-true m n t in rw e (omega (arith, own g n r b q .0)))
         (λ t. let z : height C w m < g = pairs-some (Held g) (nodes g)
-              (λ x r₂ b₂ hx. subst (λ (y : Level g). 0 < occ m (nodes g y) → height C w m < g) (sym (hx .1 .1)) (lower g (hx .1 .0) r₂ b₂ (subst (λ (y : Level g). AllSound C P g y r₂ b₂) (hx .1 .1) (hx .0))))
-              (pairsFrom C w (level C w g) n 0 (count C w n)) (last g (end C w n) b) (the-pairs g n r b q)
-              (omega (arith, nodes-self C w g n m, occ-other m n (eqb-false m n t))) in omega arith)
+        (λ x r₂ b₂ hx. subst (λ (y : Level g). 0 < occ m (nodes g y) → height C w m < g) (sym (hx .1 .1)) (lower g (hx .1 .0) r₂ b₂ (subst (λ (y : Level g). AllSound C P g y r₂ b₂) (hx .1 .1) (hx .0))))
+        (pairsFrom C w (level C w g) n 0 (count C w n)) (last g (end C w n) b) (the-pairs g n r b q)
+        (omega (arith, nodes-self C w g n m, occ-other m n (eqb-false m n t))) in omega arith)
 
     pub once-pairs : (g : ℕ) → ((x : Level g) (r : ℕ) (b : Limit) → Held g x r b → 0 < occ m (nodes g x) → (r ≤ start C w m) × Under (start C w m) b)
         → ((x : Level g) (r : ℕ) (b : Limit) → Held g x r b → occ m (nodes g x) ≤ 1)
@@ -135,14 +135,23 @@ module _ (C P : ℕ) (w : List ℕ) where
         let ks = pairsFrom C w (level C w g) n 0 (count C w n) in
         by-test (eqb m n)
         (λ t. let e : m ≡ n = eqb-true m n t in
-          by-test (ltb 0 (occ m (inPairs (nodes g) ks)))
-          (λ u. absurd (omega (arith, own g n r b q .0, ap (height C w) e, pairs-some (Held g) (nodes g)
+        by-test (ltb 0 (occ m (inPairs (nodes g) ks)))
+        (λ u. absurd (omega (
+          arith,
+          own g n r b q .0,
+          ap (height C w) e,
+          pairs-some (Held g) (nodes g)
               (λ x r₂ b₂ hx. subst (λ (y : Level g). 0 < occ m (nodes g y) → height C w m < g) (sym (hx .1 .1)) (lower g (hx .1 .0) r₂ b₂ (subst (λ (y : Level g). AllSound C P g y r₂ b₂) (hx .1 .1) (hx .0))))
-              ks (last g (end C w n) b) (the-pairs g n r b q) (ltb-true 0 (occ m (inPairs (nodes g) ks)) u))))
-          (λ u. omega (arith, nodes-self C w g n m, ltb-false 0 (occ m (inPairs (nodes g) ks)) u, subst (λ (k : ℕ). occ m (k ∷ []) ≡ 1) e (occ-self m))))
-        (λ t. omega (arith, nodes-self C w g n m, occ-other m n (eqb-false m n t),
+              ks (last g (end C w n) b) (the-pairs g n r b q) (ltb-true 0 (occ m (inPairs (nodes g) ks)) u),
+        )))
+        (λ u. omega (arith, nodes-self C w g n m, ltb-false 0 (occ m (inPairs (nodes g) ks)) u, subst (λ (k : ℕ). occ m (k ∷ []) ≡ 1) e (occ-self m))))
+        (λ t. omega (
+          arith,
+          nodes-self C w g n m,
+          occ-other m n (eqb-false m n t),
           once-pairs g (near-held g) (λ x r₂ b₂ hx. subst (λ (y : Level g). occ m (nodes g y) ≤ 1) (sym (hx .1 .1)) (once g (hx .1 .0) r₂ b₂ (subst (λ (y : Level g). AllSound C P g y r₂ b₂) (hx .1 .1) (hx .0))))
-          r (last g (end C w n) b) ks (first-child g n r b q) (the-pairs g n r b q)))
+              r (last g (end C w n) b) ks (first-child g n r b q) (the-pairs g n r b q),
+        ))
 
     -- and none is free
     pub not-free : (h n r : ℕ) (b : Limit) → AllSound C P h (level C w h n) r b → h ≤ 32 → 0 < occ m (nodes h (level C w h n)) → height C w m ≢ freeMark

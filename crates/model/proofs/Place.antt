@@ -28,9 +28,9 @@ module _ (C : ℕ) (w : List ℕ) (n : ℕ) where
   all-at {K} f Q i (suc k) b a j l u =
       ⊎-elim
       (λ (e : i ≡ j). subst (λ (x : ℕ). Q (f (child C w n x)) (row C w n x) (nextAt (i + suc k) b x)) e
-        (subst (λ (c : Limit). Q (f (child C w n i)) (row C w n i) c) (first k) (a .0)))
+      (subst (λ (c : Limit). Q (f (child C w n i)) (row C w n i) c) (first k) (a .0)))
       (λ (h : i < j). let s : i + 1 + k ≡ i + suc k = omega arith in
-        subst (λ (x : ℕ). Q (f (child C w n j)) (row C w n j) (nextAt x b j)) s (all-at f Q (i + 1) k b (a .1) j (omega arith) (omega arith)))
+      subst (λ (x : ℕ). Q (f (child C w n j)) (row C w n j) (nextAt x b j)) s (all-at f Q (i + 1) k b (a .1) j (omega arith) (omega arith)))
       (eq-or-lt-of-le l)
     where
       first : (m : ℕ) → next (pairsFrom C w f n (i + 1) m) b ≡ nextAt (i + suc m) b i
@@ -47,10 +47,10 @@ module _ (C : ℕ) (w : List ℕ) (n : ℕ) where
       let more = and-r (ltb (row C w n i) (row C w n (i + 1))) (rises z (row C w n (i + 1)) (pairsFrom C w f n (i + 1 + 1) k)) t in
       ⊎-elim
       (λ (e : i ≡ a). ⊎-elim
-        (λ (d : i + 1 ≡ c). subst (λ (x : ℕ). row C w n a < row C w n x) d (subst (λ (x : ℕ). row C w n x < row C w n (i + 1)) e one))
-        (λ (d : i + 1 < c). let step = risen f z (i + 1) k more (i + 1) c (omega arith) d (omega arith) in
-          subst (λ (x : ℕ). row C w n x < row C w n c) e (omega (arith, step)))
-        (eq-or-lt-of-le (omega arith)))
+      (λ (d : i + 1 ≡ c). subst (λ (x : ℕ). row C w n a < row C w n x) d (subst (λ (x : ℕ). row C w n x < row C w n (i + 1)) e one))
+      (λ (d : i + 1 < c). let step = risen f z (i + 1) k more (i + 1) c (omega arith) d (omega arith) in
+      subst (λ (x : ℕ). row C w n x < row C w n c) e (omega (arith, step)))
+      (eq-or-lt-of-le (omega arith)))
       (λ (h : i < a). risen f z (i + 1) k more a c (omega arith) m (omega arith))
       (eq-or-lt-of-le l)
 
@@ -81,7 +81,7 @@ module _ (C : ℕ) (w : List ℕ) (n : ℕ) where
     forth-stands i (suc k) h =
         by-test (leb (row C w n (i + 1)) q)
         (λ t. let s = forth-stands (i + 1) k (leb-true _ _ t) in
-          rw t (record { low = omega arith; high = omega arith; here = s .here; past = λ l. s .past (omega arith) }))
+        rw t (record { low = omega arith; high = omega arith; here = s .here; past = λ l. s .past (omega arith) }))
         (λ t. rw t (record { low = omega arith; high = omega arith; here = h; past = λ l. leb-false _ _ t }))
 
     pub last-at : (k j : ℕ) → j < k → row C w n j ≤ q → ((m : ℕ) → j < m → m < k → q < row C w n m) → lastNotAbove C w q n k ≡ j
@@ -101,6 +101,6 @@ module _ (C : ℕ) (w : List ℕ) (n : ℕ) where
         let j = forth i k in
         last-at (i + 1 + k) j (omega (arith, s .high)) (s .here)
         (λ m a b. ⊎-elim
-          (λ (e : suc j ≡ m). subst (λ (x : ℕ). q < row C w n x) e (subst (λ (x : ℕ). q < row C w n x) (omega arith) (s .past (omega arith))))
-          (λ (d : suc j < m). omega (arith, s .past (omega arith), risen f z i k t (j + 1) m (omega (arith, s .low)) (omega arith) b))
-          (eq-or-lt-of-le a))
+        (λ (e : suc j ≡ m). subst (λ (x : ℕ). q < row C w n x) e (subst (λ (x : ℕ). q < row C w n x) (omega arith) (s .past (omega arith))))
+        (λ (d : suc j < m). omega (arith, s .past (omega arith), risen f z i k t (j + 1) m (omega (arith, s .low)) (omega arith) b))
+        (eq-or-lt-of-le a))

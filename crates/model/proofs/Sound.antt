@@ -62,7 +62,8 @@ module _ {K : Type 0} (C h : ℕ) (t : Node K) (r : ℕ) (b : Limit) where
         high = eqb→eq (t .height) h (search (and-l, and-r) depth 8);
         many = leb→le (length (t .pairs)) C (search (and-l, and-r) depth 8);
         begin = e;
-        rise = rows-of (endSound h b (t .end)) (t .start) r (t .pairs) (search (and-l, and-r) depth 8) (search (and-l, and-r) depth 8) (search (and-l, and-r) depth 8) e (search (and-l, and-r) depth 8) }
+        rise = rows-of (endSound h b (t .end)) (t .start) r (t .pairs) (search (and-l, and-r) depth 8) (search (and-l, and-r) depth 8) (search (and-l, and-r) depth 8) e (search (and-l, and-r) depth 8);
+      }
 
   pub sound-of : Soundly C h t r b → T (sound C h t r b)
   unfolding sound

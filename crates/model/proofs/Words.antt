@@ -40,8 +40,8 @@ pub same-node : (C n m j k : ℕ) → j < nodeSize C → k < nodeSize C → base
 same-node C n m j k a b e =
     by-test (eqb n m) (λ t. eqb-true n m t)
     (λ t. by-test (ltb n m)
-      (λ q. absurd (omega (arith, apart C n m j k (ltb-true n m q) a)))
-      (λ q. let d : m < n = omega (arith, ltb-false n m q, eqb-false n m t) in absurd (omega (arith, apart C m n k j d b))))
+    (λ q. absurd (omega (arith, apart C n m j k (ltb-true n m q) a)))
+    (λ q. let d : m < n = omega (arith, ltb-false n m q, eqb-false n m t) in absurd (omega (arith, apart C m n k j d b))))
 
 -- Put ---------------------------------------------------------------------------------------------------
 

@@ -245,7 +245,10 @@ chain-same C P w v (m ∷ ms) n s c =
 -- freed nodes stand before the chain, the last one first
 pub chain-freed : (C P : ℕ) (w : List ℕ) → Header C P w → (n : ℕ) → n < P → (ns : List ℕ) → occ n ns ≡ 0 → Chain C P w (freeHead w) ns → Chain C P (freed C w n) (freeHead (freed C w n)) (n ∷ ns)
 unfolding Chain
-chain-freed C P w hd n inside ns z c =
-    (freed-head C w n P hd, inside, freed-mark C w n P hd inside,
-      subst (λ (k : ℕ). Chain C P (freed C w n) k ns) (sym (freed-next C w n P hd inside))
-      (chain-same C P w (freed C w n) ns (freeHead w) (λ m p. freed-keeps C w n m (λ e. omega (arith, subst (λ (k : ℕ). occ k ns ≡ 0) (sym e) z))) c))
+chain-freed C P w hd n inside ns z c = (
+  freed-head C w n P hd,
+  inside,
+  freed-mark C w n P hd inside,
+  subst (λ (k : ℕ). Chain C P (freed C w n) k ns) (sym (freed-next C w n P hd inside))
+      (chain-same C P w (freed C w n) ns (freeHead w) (λ m p. freed-keeps C w n m (λ e. omega (arith, subst (λ (k : ℕ). occ k ns ≡ 0) (sym e) z))) c),
+)

@@ -50,7 +50,8 @@ given C w c l (leaf n b) =
     record {
       answer = result (start C w n ∷ end C w n ∷ count C w n ∷ []);
       cursor = cursorAt (end C w n) (isLast b);
-      list = fill l 0 (records C w n 0 (count C w n)) }
+      list = fill l 0 (records C w n 0 (count C w n));
+    }
 
 -- "Next: 13, none if done, path 2." "(next: C)"
 unfoldable pub nextLeafOf : List ℕ → RowPageIndexMemCursor → List PageEntry → Stepped

@@ -105,8 +105,8 @@ unfoldable pub copiesFrom : ℕ → ℕ → (h : ℕ) → ℕ → Level (suc h) 
 copiesFrom C P zero e t r = copies []
 copiesFrom C P (suc h) e t r =
     let child : Level (suc h) → ℕ → Copies = λ x s.
-        let tested = pick (sound C h x s Open) (before (x .number) (copiesFrom C P h e x s)) (unsound (x .number)) in
-        pick (ltb (x .number) P) tested (unsound (t .number)) in
+    let tested = pick (sound C h x s Open) (before (x .number) (copiesFrom C P h e x s)) (unsound (x .number)) in
+    pick (ltb (x .number) P) tested (unsound (t .number)) in
     pick (eqb (kept (suc h) e t r) 1) (atLast child (copies []) (t .pairs)) (copies [])
 
 -- "a reset to empty collapses none"

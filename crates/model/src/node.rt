@@ -17,8 +17,11 @@ pub struct RowPageIndexNodeHeader {
 
 impl RowPageIndexNodeHeader {
     pub const MAX_HEIGHT: u64 = 31;
+
     pub const ROW_LIMIT: u64 = 1 << 62;
+
     pub const FREE_MARK: u64 = 0xffff_ffff;
+
     pub const NONE: u64 = u64::MAX;
 
     pub fn is_leaf(self) -> bool

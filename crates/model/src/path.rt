@@ -23,7 +23,10 @@ impl Path {
         ensures { λ r. ⌜ (trail r ≡ []) × (r .depth ≡ 0) ⌝ }
     {
         Path {
-            positions: [Position { node: NodeNo(0), index: 0 }; 32],
+            positions: [Position {
+                node: NodeNo(0),
+                index: 0,
+            }; 32],
             depth: 0,
         }
     }

@@ -49,16 +49,17 @@ module _ (w : List ℕ) where
   is-open h e =
       by-test (headerOk w)
       (λ t. by-test (eqb (root w) (pool w))
-        (λ u. let q : Refused Closed ≡ Open h = rw (t, u) at e in let z : _≡_ {A = ℕ} 0 1 = cc in absurd (omega arith))
-        (λ u. let q : Open (storeHeader w) ≡ Open h = rw (t, u) at e in
-          let p = passed w t in
-          record {
-            header-is = cc;
-            fits = p .header;
-            inside = omega (arith, p .root-in, eqb-false (root w) (pool w) u);
-            head-in = p .head-in;
-            free-in = p .free-in;
-            passes = t }))
+      (λ u. let q : Refused Closed ≡ Open h = rw (t, u) at e in let z : _≡_ {A = ℕ} 0 1 = cc in absurd (omega arith))
+      (λ u. let q : Open (storeHeader w) ≡ Open h = rw (t, u) at e in
+      let p = passed w t in
+      record {
+        header-is = cc;
+        fits = p .header;
+        inside = omega (arith, p .root-in, eqb-false (root w) (pool w) u);
+        head-in = p .head-in;
+        free-in = p .free-in;
+        passes = t;
+      }))
       (λ t. let q : Refused (Unsound (record { 0 = 65535 })) ≡ Open h = rw t at e in let z : _≡_ {A = ℕ} 0 1 = cc in absurd (omega arith))
 
   pub is-refused : (r : Refusal) → opened w ≡ Refused r → {A : Type 0} (refuse : Answer → A) (a : A) → whenOpen w refuse a ≡ refuse (refusal r)
@@ -66,8 +67,8 @@ module _ (w : List ℕ) where
   is-refused r e refuse a =
       by-test (headerOk w)
       (λ t. by-test (eqb (root w) (pool w))
-        (λ u. let q : Refused Closed ≡ Refused r = rw (t, u) at e in let d : Closed ≡ r = cc in rw (t, u, ← d))
-        (λ u. let q : Open (storeHeader w) ≡ Refused r = rw (t, u) at e in let z : _≡_ {A = ℕ} 0 1 = cc in absurd (omega arith)))
+      (λ u. let q : Refused Closed ≡ Refused r = rw (t, u) at e in let d : Closed ≡ r = cc in rw (t, u, ← d))
+      (λ u. let q : Open (storeHeader w) ≡ Refused r = rw (t, u) at e in let z : _≡_ {A = ℕ} 0 1 = cc in absurd (omega arith)))
       (λ t. let q : Refused (Unsound (record { 0 = 65535 })) ≡ Refused r = rw t at e in let d : Unsound (record { 0 = 65535 }) ≡ r = cc in rw (t, ← d))
 
   pub goes-on : (h : StoreHeader) → IsOpen w h → {A : Type 0} (refuse : Answer → A) (a : A) → whenOpen w refuse a ≡ a

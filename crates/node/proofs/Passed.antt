@@ -23,15 +23,17 @@ passed w e =
     let t = holds (headerOk w) e in
     record {
       header =
-        record {
-          cap-low = leb→le 2 (capacity w) (search (and-l, and-r) depth 8);
-          cap-high = leb→le (capacity w) 4094 (search (and-l, and-r) depth 8);
-          pool-low = leb→le 1 (pool w) (search (and-l, and-r) depth 8);
-          pool-high = leb→le (pool w) 65535 (search (and-l, and-r) depth 8);
-          long = eqb→eq (length w) (storeLength (capacity w) (pool w)) (search (and-l, and-r) depth 8) };
+          record {
+            cap-low = leb→le 2 (capacity w) (search (and-l, and-r) depth 8);
+            cap-high = leb→le (capacity w) 4094 (search (and-l, and-r) depth 8);
+            pool-low = leb→le 1 (pool w) (search (and-l, and-r) depth 8);
+            pool-high = leb→le (pool w) 65535 (search (and-l, and-r) depth 8);
+            long = eqb→eq (length w) (storeLength (capacity w) (pool w)) (search (and-l, and-r) depth 8);
+          };
       root-in = leb→le (root w) (pool w) (search (and-l, and-r) depth 8);
       head-in = leb→le (freeHead w) (pool w) (search (and-l, and-r) depth 8);
-      free-in = leb→le (freeCount w) (pool w) (search (and-l, and-r) depth 8) }
+      free-in = leb→le (freeCount w) (pool w) (search (and-l, and-r) depth 8);
+    }
 
 -- a fact that fails is enough
 pub fails : (w : List ℕ) → (Passed w → ⊥) → headerOk w ≡ false

@@ -116,7 +116,8 @@ module _ (C : ℕ) (w : List ℕ) (n : ℕ) where
           many = leb→le (count C w n) C (search (and-l, and-r) depth 8);
           begin = e;
           first = sym (begins-at (count C w n) k) ∙ sym f ∙ e;
-          ends = ap (endSound h b (end C w n)) (sym (ends-of (count C w n) k)) ∙ is-true _ (search (and-l, and-r) depth 8) }
+          ends = ap (endSound h b (end C w n)) (sym (ends-of (count C w n) k)) ∙ is-true _ (search (and-l, and-r) depth 8);
+        }
 
     -- a fact that fails is enough
     pub unsound-if : (Facts h r b → ⊥) → sound C h (nodeAt C w n) r b ≡ false
@@ -126,6 +127,14 @@ module _ (C : ℕ) (w : List ℕ) (n : ℕ) where
     pub sound-if : Facts h r b → sound C h (nodeAt C w n) r b ≡ rising (pairsFrom C w (λ (x : ℕ). x) n 0 (count C w n))
     sound-if f =
         sound-is
-        ∙ rw (eq-eqb (height C w n) h (f .high), le-leb 1 (count C w n) (f .some), le-leb (count C w n) C (f .many), begins-at (count C w n) (f .some), ends-of (count C w n) (f .some),
-          eq-eqb (start C w n) r (f .begin), eq-eqb (start C w n) (row C w n 0) (f .begin ∙ sym (f .first)), f .ends)
+        ∙ rw (
+          eq-eqb (height C w n) h (f .high),
+          le-leb 1 (count C w n) (f .some),
+          le-leb (count C w n) C (f .many),
+          begins-at (count C w n) (f .some),
+          ends-of (count C w n) (f .some),
+          eq-eqb (start C w n) r (f .begin),
+          eq-eqb (start C w n) (row C w n 0) (f .begin ∙ sym (f .first)),
+          f .ends,
+        )
         (by-test (rising (pairsFrom C w (λ (x : ℕ). x) n 0 (count C w n))) (λ t. rw t) (λ t. rw t))

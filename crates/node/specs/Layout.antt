@@ -22,7 +22,8 @@ headerAt C w n =
       height = height C w n;
       count = count C w n;
       «start_row_id» = record { 0 = start C w n };
-      «end_row_id» = record { 0 = end C w n } }
+      «end_row_id» = record { 0 = end C w n };
+    }
 
 -- "The entries of a node are handed back as that part of the store's words."
 abbrev pub pairWords : ℕ → List ℕ → ℕ → ℕ → List ℕ
@@ -34,7 +35,8 @@ storeHeader w =
       layout = record { capacity = capacity w; pool = pool w };
       root = record { 0 = root w };
       «free_head» = record { 0 = freeHead w };
-      «free_count» = freeCount w }
+      «free_count» = freeCount w;
+    }
 
 -- "2 for the header, then 3"
 unfoldable pub opened : List ℕ → Opened

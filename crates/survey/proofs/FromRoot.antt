@@ -37,7 +37,7 @@ module _ (ends : Bool) (C P : ℕ) (w : List ℕ) (n : ℕ) (k : Counts) where
       unfolding rootVisits tally bound rest
       from-good s =
           let q : visits ends C P (suc (height C w n)) n (level C w (suc (height C w n)) n) (start C w n) Open ≡ Enter n ∷ rest ends C P w (height C w n) (entered n ∷ []) =
-              sym (append-nil (visits ends C P (suc (height C w n)) n (level C w (suc (height C w n)) n) (start C w n) Open)) ∙ child-good ends C P w (height C w n) n n (start C w n) [] inside s in
+          sym (append-nil (visits ends C P (suc (height C w n)) n (level C w (suc (height C w n)) n) (start C w n) Open)) ∙ child-good ends C P w (height C w n) n n (start C w n) [] inside s in
           rw (e, h, q)
 
 pub root-valid : (ends : Bool) (C P : ℕ) (w : List ℕ) (n : ℕ) → height C w n ≤ maxHeight → n < P → passes ends C (height C w n) (nodeAt C w n) (start C w n) Open ≡ true

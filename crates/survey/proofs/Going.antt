@@ -50,7 +50,6 @@ module _ (C P : ℕ) (w : List ℕ) where
     done z = G .told ∙ rw (left-none ends C P w p (omega arith))
 
     module _ (z : 0 < p .depth) where
-
       -- a node is left
       out-move : hasChild C w (lastOf p .node .0) (lastOf p .index) ≡ false → Moves ends C P w p (Leave (lastOf p .node .0)) (popped p)
       out-move e = move-out ends C P w p (G .valid) z (popped p) e refl
@@ -65,7 +64,8 @@ module _ (C P : ℕ) (w : List ℕ) where
             long = G .long;
             long-next = G .long-next;
             long-first = G .long-first;
-            beside = λ d h. G .beside d (omega arith) }
+            beside = λ d h. G .beside d (omega arith);
+          }
 
       pub less-out : hasChild C w (lastOf p .node .0) (lastOf p .index) ≡ false → length (left ends C P w (popped p)) < length (left ends C P w p)
       less-out e = rw (out-move e .one) (omega arith)
@@ -123,7 +123,8 @@ module _ (C P : ℕ) (w : List ℕ) where
                 record {
                   next-is = ap limitOf (getD-set-other nexts (p .depth) d b Open (λ x. omega arith)) ∙ o .next-is ∙ ap (bound C w) (sym (entered-above p z (G .long) c d (omega arith)));
                   first-is = getD-set-other firsts (p .depth) d first 0 (λ x. omega arith) ∙ o .first-is ∙ ap (λ (x : Position). outOf C P w (height C w (x .node .0)) (x .node .0)) (sym q);
-                  ahead = omega (arith, o .ahead, getD-set-other firsts (p .depth) d first 0 (λ x. omega arith), ap (λ (x : Position). x .index) q) }
+                  ahead = omega (arith, o .ahead, getD-set-other firsts (p .depth) d first 0 (λ x. omega arith), ap (λ (x : Position). x .index) q);
+                }
 
             -- beside the last one, moved on
             on : Beside (enteredPath p c .positions) (set nexts (p .depth) b) (set firsts (p .depth) first) (p .depth - 1)
@@ -132,7 +133,8 @@ module _ (C P : ℕ) (w : List ℕ) where
                 record {
                   next-is = ap limitOf (getD-set-other nexts (p .depth) (p .depth - 1) b Open (λ x. omega arith)) ∙ B .next-is ∙ ap (bound C w) (sym (entered-above p z (G .long) c (p .depth - 1) (omega arith)));
                   first-is = getD-set-other firsts (p .depth) (p .depth - 1) first 0 (λ x. omega arith) ∙ B .first-is ∙ ap (λ (x : Position). outOf C P w (height C w (x .node .0)) (x .node .0)) (sym q);
-                  ahead = omega (arith, getD-set-other firsts (p .depth) (p .depth - 1) first 0 (λ x. omega arith), ap (λ (x : Position). x .index) q) }
+                  ahead = omega (arith, getD-set-other firsts (p .depth) (p .depth - 1) first 0 (λ x. omega arith), ap (λ (x : Position). x .index) q);
+                }
 
             high : height C w c ≡ height C w (lastOf p .node .0) - 1
             high = ap (height C w) (W .number) ∙ passes-fits ends C w (child C w (lastOf p .node .0) (lastOf p .index)) (height C w (lastOf p .node .0) - 1) _ _ (W .good) .0
@@ -146,7 +148,8 @@ module _ (C P : ℕ) (w : List ℕ) where
                 record {
                   next-is = ap limitOf (getD-set-same nexts (p .depth) b Open (omega (arith, deep, G .long-next))) ∙ W .beyond ∙ ap (nextRow C w (lastOf p .node .0) (lastOf p .index)) (B .next-is) ∙ sym (ap (bound C w) st ∙ bound-turned C w (lastOf p) (above p));
                   first-is = getD-set-same firsts (p .depth) first 0 (omega (arith, deep, G .long-first)) ∙ f ∙ ap (λ (x : Position). outOf C P w (height C w (x .node .0)) (x .node .0)) (sym q);
-                  ahead = omega (arith, ap (λ (x : Position). x .index) q) }
+                  ahead = omega (arith, ap (λ (x : Position). x .index) q);
+                }
 
             pub going-in : Going ends T (enteredPath p c) (set nexts (p .depth) b) (set firsts (p .depth) first) (counted C w c k)
             unfolding tally
@@ -158,8 +161,9 @@ module _ (C P : ℕ) (w : List ℕ) where
                   long-next = length-set nexts (p .depth) b ∙ G .long-next;
                   long-first = length-set firsts (p .depth) first ∙ G .long-first;
                   beside = λ d l. ⊎-elim (λ (x : suc d ≡ suc (p .depth)). let y : p .depth ≡ d = omega arith in subst (λ (j : ℕ). Beside (enteredPath p c .positions) (set nexts (p .depth) b) (set firsts (p .depth) first) j) y new)
-                    (λ (x : suc d < suc (p .depth)). ⊎-elim (λ (y : d ≡ p .depth - 1). subst (λ (j : ℕ). Beside (enteredPath p c .positions) (set nexts (p .depth) b) (set firsts (p .depth) first) j) (sym y) on) (λ (y : d < p .depth - 1). old d y) (eq-or-lt-of-le (omega arith)))
-                    (eq-or-lt-of-le (omega arith)) }
+                      (λ (x : suc d < suc (p .depth)). ⊎-elim (λ (y : d ≡ p .depth - 1). subst (λ (j : ℕ). Beside (enteredPath p c .positions) (set nexts (p .depth) b) (set firsts (p .depth) first) j) (sym y) on) (λ (y : d < p .depth - 1). old d y) (eq-or-lt-of-le (omega arith)))
+                      (eq-or-lt-of-le (omega arith));
+                }
 
             pub less-in : length (left ends C P w (enteredPath p c)) < length (left ends C P w p)
             less-in = rw (in-move .one) (omega arith)
@@ -175,4 +179,5 @@ start-going C P w ends root first k v e =
       long = refl;
       long-next = refl;
       long-first = refl;
-      beside = λ d l. let z : d ≡ 0 = omega arith in subst (λ (j : ℕ). Beside C P w (replicate 32 (entered root)) (replicate 32 Open) (replicate 32 first) j) (sym z) (record { next-is = refl; first-is = e; ahead = zero-le }) }
+      beside = λ d l. let z : d ≡ 0 = omega arith in subst (λ (j : ℕ). Beside C P w (replicate 32 (entered root)) (replicate 32 Open) (replicate 32 first) j) (sym z) (record { next-is = refl; first-is = e; ahead = zero-le });
+    }

@@ -41,11 +41,7 @@ pub fn add(k: u64, some: u64) -> u64
     requires { ⌜ some ≤ 4094 ⌝ }
     ensures { λ r. ⌜ r ≡ more k some ⌝ }
 {
-    if k < Counts::MOST {
-        k + some
-    } else {
-        k
-    }
+    if k < Counts::MOST { k + some } else { k }
 }
 
 // Node n counted.
@@ -75,7 +71,14 @@ pub fn count_node(l: Layout, s: &[u64], n: NodeNo, k: Counts) -> Counts
 
 // What is left below a node that was entered, with the counts so far. The path is stored to in place: a copy of it
 // for each node would cost more than the node's test.
-pub fn survey_below(l: Layout, s: &[u64], ends: bool, root: NodeNo, first: u64, start: Counts) -> Survey
+pub fn survey_below(
+    l: Layout,
+    s: &[u64],
+    ends: bool,
+    root: NodeNo,
+    first: u64,
+    start: Counts,
+) -> Survey
     requires { ⌜ Fits l (now s) ⌝ }
     requires { ⌜ Valid (l .capacity) (l .pool) (now s) (height (l .capacity) (now s) (root .0)) (entered (root .0) ∷ []) ⌝ }
     requires { ⌜ first ≡ outOf (l .capacity) (l .pool) (now s) (height (l .capacity) (now s) (root .0)) (root .0) ⌝ }

@@ -23,8 +23,8 @@ unfolding hasChild
 branch C w n i e =
     by-test (ltb 0 (height C w n))
     (λ u. by-test (ltb i (count C w n))
-      (λ v. (ltb-true 0 (height C w n) u, ltb-true i (count C w n) v))
-      (λ v. absurd (false≢true (rw (u, v) at e))))
+    (λ v. (ltb-true 0 (height C w n) u, ltb-true i (count C w n) v))
+    (λ v. absurd (false≢true (rw (u, v) at e))))
     (λ u. absurd (false≢true (rw u at e)))
 
 -- what an entering tells
@@ -47,7 +47,7 @@ module _ (ends : Bool) (C P : ℕ) (w : List ℕ) (n i : ℕ) (b : Limit) where
   went c next first e =
       by-test test
       (λ t. let q : goes c next first ≡ goes (child C w n i) (nextRow C w n i b) (outOf C P w (height C w n - 1) (child C w n i)) = rw t at e in
-        record { number = cc; beyond = cc; out = cc; good = t })
+      record { number = cc; beyond = cc; out = cc; good = t })
       (λ t. let q : goes c next first ≡ stops (child C w n i) = rw t at e in let z : _≡_ {A = ℕ} 0 1 = cc in absurd (omega arith))
 
   pub barred : (c : ℕ) → stops c ≡ entering ends C P w n i b → Barred ends C P w n i b c
@@ -64,8 +64,8 @@ module _ (ends : Bool) (C P : ℕ) (w : List ℕ) (p : Path) (v : ValidPath C P 
   move-out e t =
       by-test (ltb 0 (height C w (lastOf p .node .0)))
       (λ u. by-test (ltb (lastOf p .index) (count C w (lastOf p .node .0)))
-        (λ x. absurd (false≢true (sym e ∙ rw (u, x))))
-        (λ x. end-move ends C P w p v z q (ltb-false (lastOf p .index) (count C w (lastOf p .node .0)) x) t))
+      (λ x. absurd (false≢true (sym e ∙ rw (u, x))))
+      (λ x. end-move ends C P w p v z q (ltb-false (lastOf p .index) (count C w (lastOf p .node .0)) x) t))
       (λ u. leaf-move ends C P w p v z q (omega (arith, ltb-false 0 (height C w (lastOf p .node .0)) u)) t)
 
   module _ (e : hasChild C w (lastOf p .node .0) (lastOf p .index) ≡ true) where
@@ -83,13 +83,13 @@ module _ (ends : Bool) (C P : ℕ) (w : List ℕ) (p : Path) (v : ValidPath C P 
       move-bad c k t =
           subst (λ (x : ℕ). Moves ends C P w p (Bad x) q) (sym (k .number))
           (bad-move ends C P w p v z q (height C w (lastOf p .node .0) - 1) tall inside h
-            (ap (passes ends C (height C w (lastOf p .node .0) - 1) (nodeAt C w (child C w (lastOf p .node .0) (lastOf p .index))) (row C w (lastOf p .node .0) (lastOf p .index)))
-              (bound-turned C w (lastOf p) (above p) ∙ ap (nextRow C w (lastOf p .node .0) (lastOf p .index)) (sym f)) ∙ k .bad) t)
+          (ap (passes ends C (height C w (lastOf p .node .0) - 1) (nodeAt C w (child C w (lastOf p .node .0) (lastOf p .index))) (row C w (lastOf p .node .0) (lastOf p .index)))
+          (bound-turned C w (lastOf p) (above p) ∙ ap (nextRow C w (lastOf p .node .0) (lastOf p .index)) (sym f)) ∙ k .bad) t)
 
       pub move-in : (c : ℕ) (next : Limit) (first : ℕ) → Went ends C P w (lastOf p .node .0) (lastOf p .index) b c next first → trail q ≡ entered c ∷ turned (lastOf p) ∷ above p → Moves ends C P w p (Enter c) q
       move-in c next first k t =
           subst (λ (x : ℕ). Moves ends C P w p (Enter x) q) (sym (k .number))
           (enter-move ends C P w p v z q (height C w (lastOf p .node .0) - 1) tall inside h
-            (ap (passes ends C (height C w (lastOf p .node .0) - 1) (nodeAt C w (child C w (lastOf p .node .0) (lastOf p .index))) (row C w (lastOf p .node .0) (lastOf p .index)))
-              (bound-turned C w (lastOf p) (above p) ∙ ap (nextRow C w (lastOf p .node .0) (lastOf p .index)) (sym f)) ∙ k .good)
-            (t ∙ ap (λ (x : ℕ). entered x ∷ turned (lastOf p) ∷ above p) (k .number)))
+          (ap (passes ends C (height C w (lastOf p .node .0) - 1) (nodeAt C w (child C w (lastOf p .node .0) (lastOf p .index))) (row C w (lastOf p .node .0) (lastOf p .index)))
+          (bound-turned C w (lastOf p) (above p) ∙ ap (nextRow C w (lastOf p .node .0) (lastOf p .index)) (sym f)) ∙ k .good)
+          (t ∙ ap (λ (x : ℕ). entered x ∷ turned (lastOf p) ∷ above p) (k .number)))

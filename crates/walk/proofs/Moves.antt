@@ -15,13 +15,13 @@ use Rattle.walk.proofs.Valid.{Top, valid-top, valid-path}
 use Rattle.walk.proofs.Rest.{rest-leaf, rest-end, rest-child, child-far, child-bad, child-good, left-is, left-top, valid-entered}
 
 module _ (ends : Bool) (C P : ℕ) (w : List ℕ) (p : Path) (v : ValidPath C P w p) (z : 0 < p .depth) (q : Path) where
-
   moved : (x : Visit) (h : ℕ) (st : List Position) → trail q ≡ st → Valid C P w h st
       → rest ends C P w (height C w (lastOf p .node .0)) (lastOf p ∷ above p) ≡ x ∷ rest ends C P w h st → Moves ends C P w p x q
   moved x h st e u o =
       record {
         one = left-top ends C P w p z ∙ o ∙ ap (λ (vs : List Visit). x ∷ vs) (sym (left-is ends C P w q h st e u));
-        valid = valid-path C P w q h st e u }
+        valid = valid-path C P w q h st e u;
+      }
 
   pub leaf-move : height C w (lastOf p .node .0) ≡ 0 → trail q ≡ above p → Moves ends C P w p (Leave (lastOf p .node .0)) q
   leaf-move h e = moved _ _ _ e (valid-top C P w p z v .over) (rest-leaf ends C P w (height C w (lastOf p .node .0)) (lastOf p) (above p) h)

@@ -19,9 +19,9 @@ module _ (C P : ℕ) (w : List ℕ) (n : ℕ) where
   below i (suc k) j l h =
       by-test (ltb (child C w n i) P)
       (λ t. ⊎-elim
-        (λ (e : i ≡ j). subst (λ (x : ℕ). child C w n x < P) e (ltb-true (child C w n i) P t))
-        (λ (d : i < j). below (i + 1) k j (omega arith) (rw t at h))
-        (eq-or-lt-of-le l))
+      (λ (e : i ≡ j). subst (λ (x : ℕ). child C w n x < P) e (ltb-true (child C w n i) P t))
+      (λ (d : i < j). below (i + 1) k j (omega arith) (rw t at h))
+      (eq-or-lt-of-le l))
       (λ t. let z : j < i = rw t at h in absurd (omega arith))
 
   at : (i k j : ℕ) → firstOut C P w n i k ≡ j → j < i + k → P ≤ child C w n j

@@ -34,7 +34,8 @@ Valid C P w h (p ∷ up) =
       high : height C w (p .node .0) ≡ h;
       within : p .index ≤ count C w (p .node .0);
       narrow : count C w (p .node .0) ≤ C;
-      above : Valid C P w (suc h) up }
+      above : Valid C P w (suc h) up;
+    }
 
 unfoldable pub lowest : ℕ → List ℕ → List Position → ℕ
 lowest C w [] = 0

@@ -56,7 +56,10 @@ pub fn advance(l: Layout, s: &[u64], ends: bool, path: Path) -> Step
 {
     let depth = path.depth;
     if depth == 0 {
-        return Step { visit: Visit::Done, path };
+        return Step {
+            visit: Visit::Done,
+            path,
+        };
     }
     let above = path.pop();
     let top = path.last();
@@ -64,19 +67,31 @@ pub fn advance(l: Layout, s: &[u64], ends: bool, path: Path) -> Step
     let index = top.index;
     let more = turn::has_child(l, s, node, index);
     if !more {
-        return Step { visit: Visit::Leave(node), path: above };
+        return Step {
+            visit: Visit::Leave(node),
+            path: above,
+        };
     }
     let turned = path.turn();
     let child = l.child(s, node, index);
     if l.pool <= child.0 {
-        return Step { visit: Visit::Bad(node), path: turned };
+        return Step {
+            visit: Visit::Bad(node),
+            path: turned,
+        };
     }
     let beyond = next_on(l, s, above);
     match turn::enter(l, s, ends, node, index, beyond) {
         Entered::Child(n, _, _) => {
             let below = turned.push(n);
-            Step { visit: Visit::Enter(n), path: below }
+            Step {
+                visit: Visit::Enter(n),
+                path: below,
+            }
         }
-        Entered::Bad(n) => Step { visit: Visit::Bad(n), path: turned },
+        Entered::Bad(n) => Step {
+            visit: Visit::Bad(n),
+            path: turned,
+        },
     }
 }

@@ -32,7 +32,15 @@ pub fn end_fits(height: u64, next: Limit, end: RowID) -> bool
 }
 
 // The node test; with ends, a branch's end is looked at too.
-pub fn pass(l: Layout, s: &[u64], ends: bool, n: NodeNo, height: u64, row: RowID, next: Limit) -> NodeTest
+pub fn pass(
+    l: Layout,
+    s: &[u64],
+    ends: bool,
+    n: NodeNo,
+    height: u64,
+    row: RowID,
+    next: Limit,
+) -> NodeTest
     requires { ⌜ Fits l (now s) ⌝ }
     requires { ⌜ n .0 < l .pool ⌝ }
     ensures { λ r. ⌜ r ≡ passTest ends (l .capacity) (l .pool) (now (s .entry)) (n .0) height (row .0) (limitOf next) ⌝ }

@@ -43,9 +43,9 @@ returns-6 : tie.Need-returns-6
 returns-6 c =
     let a = c .before .before .before .before .before .before .before .before .before .before .before .before .before .before .before .before .before .args in
     let ended : c .before .end-sound .result ≡ endSound (a .height) (limitOf (a .next)) (end (a .l .capacity) (a .s .now) (a .n .0)) (row (a .l .capacity) (a .s .now) (a .n .0) (count (a .l .capacity) (a .s .now) (a .n .0) - 1)) =
-          c .before .end-sound .ensures
-          ∙ ap (λ (h : RowPageIndexNodeHeader). endSound (a .height) (limitOf (a .next)) (h .«end_row_id» .0) (c .before .before .row2 .result .0)) (c .before .before .before .before .before .before .before .before .before .before .before .before .before .before .before .header .ensures)
-          ∙ ap (endSound (a .height) (limitOf (a .next)) (end (a .l .capacity) (a .s .now) (a .n .0))) (c .before .before .row2 .ensures ∙ ap (λ (h : RowPageIndexNodeHeader). row (a .l .capacity) (a .s .now) (a .n .0) (h .count - 1)) (c .before .before .before .before .before .before .before .before .before .before .before .before .before .before .before .header .ensures)) in
+    c .before .end-sound .ensures
+    ∙ ap (λ (h : RowPageIndexNodeHeader). endSound (a .height) (limitOf (a .next)) (h .«end_row_id» .0) (c .before .before .row2 .result .0)) (c .before .before .before .before .before .before .before .before .before .before .before .before .before .before .before .header .ensures)
+    ∙ ap (endSound (a .height) (limitOf (a .next)) (end (a .l .capacity) (a .s .now) (a .n .0))) (c .before .before .row2 .ensures ∙ ap (λ (h : RowPageIndexNodeHeader). row (a .l .capacity) (a .s .now) (a .n .0) (h .count - 1)) (c .before .before .before .before .before .before .before .before .before .before .before .before .before .before .before .header .ensures)) in
     sym (unsound-if (a .l .capacity) (a .s .now) (a .n .0) (a .height) (a .row .0) (limitOf (a .next)) (λ f. false≢true (sym (not-true _ (c .if6 .taken)) ∙ ended ∙ f .ends)))
 
 rises-requires : tie.Need-rises-requires
@@ -56,17 +56,18 @@ returns-7 c =
     let a = c .before .before .before .before .before .before .before .before .before .before .before .before .before .before .before .before .before .before .args in
     let hdr = c .before .before .before .before .before .before .before .before .before .before .before .before .before .before .before .before .header .ensures in
     let ended : c .before .before .end-sound .result ≡ endSound (a .height) (limitOf (a .next)) (end (a .l .capacity) (a .s .now) (a .n .0)) (row (a .l .capacity) (a .s .now) (a .n .0) (count (a .l .capacity) (a .s .now) (a .n .0) - 1)) =
-          c .before .before .end-sound .ensures
-          ∙ ap (λ (h : RowPageIndexNodeHeader). endSound (a .height) (limitOf (a .next)) (h .«end_row_id» .0) (c .before .before .before .row2 .result .0)) (c .before .before .before .before .before .before .before .before .before .before .before .before .before .before .before .before .header .ensures)
-          ∙ ap (endSound (a .height) (limitOf (a .next)) (end (a .l .capacity) (a .s .now) (a .n .0))) (c .before .before .before .row2 .ensures ∙ ap (λ (h : RowPageIndexNodeHeader). row (a .l .capacity) (a .s .now) (a .n .0) (h .count - 1)) (c .before .before .before .before .before .before .before .before .before .before .before .before .before .before .before .before .header .ensures)) in
+    c .before .before .end-sound .ensures
+    ∙ ap (λ (h : RowPageIndexNodeHeader). endSound (a .height) (limitOf (a .next)) (h .«end_row_id» .0) (c .before .before .before .row2 .result .0)) (c .before .before .before .before .before .before .before .before .before .before .before .before .before .before .before .before .header .ensures)
+    ∙ ap (endSound (a .height) (limitOf (a .next)) (end (a .l .capacity) (a .s .now) (a .n .0))) (c .before .before .before .row2 .ensures ∙ ap (λ (h : RowPageIndexNodeHeader). row (a .l .capacity) (a .s .now) (a .n .0) (h .count - 1)) (c .before .before .before .before .before .before .before .before .before .before .before .before .before .before .before .before .header .ensures)) in
     let f : Facts (a .l .capacity) (a .s .now) (a .n .0) (a .height) (a .row .0) (limitOf (a .next)) =
-          record {
-            high = sym (ap (λ (h : RowPageIndexNodeHeader). h .height) hdr) ∙ c .before .before .before .before .before .before .before .before .before .before .before .before .before .before .if1 .left;
-            some = omega (arith, c .before .before .before .before .before .before .before .before .before .before .before .before .before .if2 .left, ap (λ (h : RowPageIndexNodeHeader). h .count) hdr);
-            many = omega (arith, c .before .before .before .before .before .before .before .before .before .before .before .if3 .left, ap (λ (h : RowPageIndexNodeHeader). h .count) hdr);
-            begin = sym (ap (λ (h : RowPageIndexNodeHeader). h .«start_row_id» .0) hdr) ∙ c .before .before .before .before .before .before .before .before .if4 .left;
-            first = sym (c .before .before .before .before .before .before .before .row .ensures) ∙ c .before .before .before .before .if5 .left;
-            ends = sym ended ∙ not-false _ (c .before .if6 .left) } in
+    record {
+      high = sym (ap (λ (h : RowPageIndexNodeHeader). h .height) hdr) ∙ c .before .before .before .before .before .before .before .before .before .before .before .before .before .before .if1 .left;
+      some = omega (arith, c .before .before .before .before .before .before .before .before .before .before .before .before .before .if2 .left, ap (λ (h : RowPageIndexNodeHeader). h .count) hdr);
+      many = omega (arith, c .before .before .before .before .before .before .before .before .before .before .before .if3 .left, ap (λ (h : RowPageIndexNodeHeader). h .count) hdr);
+      begin = sym (ap (λ (h : RowPageIndexNodeHeader). h .«start_row_id» .0) hdr) ∙ c .before .before .before .before .before .before .before .before .if4 .left;
+      first = sym (c .before .before .before .before .before .before .before .row .ensures) ∙ c .before .before .before .before .if5 .left;
+      ends = sym ended ∙ not-false _ (c .before .if6 .left);
+    } in
     c .rises .ensures ∙ ap (λ (h : RowPageIndexNodeHeader). rising (pairsFrom (a .l .capacity) (a .s .now) (λ (x : ℕ). x) (a .n .0) 0 (h .count))) hdr ∙ sym (sound-if (a .l .capacity) (a .s .now) (a .n .0) (a .height) (a .row .0) (limitOf (a .next)) f)
 
 pub is-sound-spec : {M : Type 1} → statement M

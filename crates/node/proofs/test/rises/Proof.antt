@@ -82,12 +82,15 @@ loop-less c = search needs
 
 loop-again : tie.Need-loop-again Inv-loop μ-loop Inv-loop2 μ-loop2
 loop-again c =
-    let a = c .before .before .before .before .before .before .before .before .before .before .before .before .args in
-    (omega arith, omega (arith, c .before .before .before .before .before .before .before .before .loop-test .taken), c .before .before .before .before .before .before .before .before .before .loop .inv .2 ∙ rise-on (a .l .capacity) (a .s .now) (a .n .0) _ _ (c .before .before .before .before .before .before .before .before .before .loop .i + 1) _ (omega (arith, c .before .before .before .before .before .before .before .before .loop-test .taken)) (omega arith) (rw (c .before .before .before .before .before .before .before .row2 .ensures) at (c .before .before .before .before .before .before .if1 .left))
-    ∙ rise-on (a .l .capacity) (a .s .now) (a .n .0) _ _ (c .before .before .before .before .before .before .before .before .before .loop .i + 2) _ (omega (arith, c .before .before .before .before .before .before .before .before .loop-test .taken)) (omega arith) (rw (c .before .before .before .before .before .row3 .ensures, c .before .before .before .before .before .before .before .row2 .ensures) at (c .before .before .before .before .if2 .left))
-    ∙ rise-on (a .l .capacity) (a .s .now) (a .n .0) _ _ (c .before .before .before .before .before .before .before .before .before .loop .i + 3) _ (omega (arith, c .before .before .before .before .before .before .before .before .loop-test .taken)) (omega arith) (rw (c .before .before .before .row4 .ensures, c .before .before .before .before .before .row3 .ensures) at (c .before .before .if3 .left))
-    ∙ rise-on (a .l .capacity) (a .s .now) (a .n .0) _ _ (c .before .before .before .before .before .before .before .before .before .loop .i + 4) _ (omega (arith, c .before .before .before .before .before .before .before .before .loop-test .taken)) (omega arith) (rw (c .before .row5 .ensures, c .before .before .before .row4 .ensures) at (c .if4 .left))
-    ∙ rw (c .before .row5 .ensures))
+    let a = c .before .before .before .before .before .before .before .before .before .before .before .before .args in (
+      omega arith,
+      omega (arith, c .before .before .before .before .before .before .before .before .loop-test .taken),
+      c .before .before .before .before .before .before .before .before .before .loop .inv .2 ∙ rise-on (a .l .capacity) (a .s .now) (a .n .0) _ _ (c .before .before .before .before .before .before .before .before .before .loop .i + 1) _ (omega (arith, c .before .before .before .before .before .before .before .before .loop-test .taken)) (omega arith) (rw (c .before .before .before .before .before .before .before .row2 .ensures) at (c .before .before .before .before .before .before .if1 .left))
+          ∙ rise-on (a .l .capacity) (a .s .now) (a .n .0) _ _ (c .before .before .before .before .before .before .before .before .before .loop .i + 2) _ (omega (arith, c .before .before .before .before .before .before .before .before .loop-test .taken)) (omega arith) (rw (c .before .before .before .before .before .row3 .ensures, c .before .before .before .before .before .before .before .row2 .ensures) at (c .before .before .before .before .if2 .left))
+          ∙ rise-on (a .l .capacity) (a .s .now) (a .n .0) _ _ (c .before .before .before .before .before .before .before .before .before .loop .i + 3) _ (omega (arith, c .before .before .before .before .before .before .before .before .loop-test .taken)) (omega arith) (rw (c .before .before .before .row4 .ensures, c .before .before .before .before .before .row3 .ensures) at (c .before .before .if3 .left))
+          ∙ rise-on (a .l .capacity) (a .s .now) (a .n .0) _ _ (c .before .before .before .before .before .before .before .before .before .loop .i + 4) _ (omega (arith, c .before .before .before .before .before .before .before .before .loop-test .taken)) (omega arith) (rw (c .before .row5 .ensures, c .before .before .before .row4 .ensures) at (c .if4 .left))
+          ∙ rw (c .before .row5 .ensures),
+    )
 
 loop2-holds : tie.Need-loop2-holds Inv-loop μ-loop Inv-loop2 μ-loop2
 loop2-holds c = (omega arith, omega arith, c .before .loop .inv .2)

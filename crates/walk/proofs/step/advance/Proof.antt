@@ -102,9 +102,11 @@ enter-requires c κs =
     let E = c .before .before .before .before .before .before .before .before .before .last .ensures in
     let has : hasChild (a .l .capacity) (a .s .now) (lastOf p .node .0) (lastOf p .index) ≡ true = sym (c .before .before .before .before .before .before .before .has-child .ensures ∙ ap (λ (x : Position). hasChild (a .l .capacity) (a .s .now) (x .node .0) (x .index)) E) ∙ not-false _ (c .before .before .before .before .before .before .if2 .left) in
     let b = branch (a .l .capacity) (a .s .now) (lastOf p .node .0) (lastOf p .index) has in
-    let far = c .before .before .before .before .child .ensures ∙ ap (λ (x : Position). child (a .l .capacity) (a .s .now) (x .node .0) (x .index)) E in
-    (c .before .before .before .before .before .before .before .before .before .before .before .before .before .pre .0, subst (λ (x : Position). (x .node .0 < a .l .pool) × (0 < height (a .l .capacity) (a .s .now) (x .node .0)) × (x .index < count (a .l .capacity) (a .s .now) (x .node .0)) × (count (a .l .capacity) (a .s .now) (x .node .0) ≤ a .l .capacity) × (child (a .l .capacity) (a .s .now) (x .node .0) (x .index) < a .l .pool)) (sym E)
-      (t .inside, b .0, b .1, t .narrow, omega (arith, c .before .if3 .left, far)))
+    let far = c .before .before .before .before .child .ensures ∙ ap (λ (x : Position). child (a .l .capacity) (a .s .now) (x .node .0) (x .index)) E in (
+      c .before .before .before .before .before .before .before .before .before .before .before .before .before .pre .0,
+      subst (λ (x : Position). (x .node .0 < a .l .pool) × (0 < height (a .l .capacity) (a .s .now) (x .node .0)) × (x .index < count (a .l .capacity) (a .s .now) (x .node .0)) × (count (a .l .capacity) (a .s .now) (x .node .0) ≤ a .l .capacity) × (child (a .l .capacity) (a .s .now) (x .node .0) (x .index) < a .l .pool)) (sym E)
+          (t .inside, b .0, b .1, t .narrow, omega (arith, c .before .if3 .left, far)),
+    )
 
 enum-known-n : tie.Need-enum-known-n
 enum-known-n c = search needs

@@ -43,9 +43,10 @@ loop-less : tie.Need-loop-less Inv-loop μ-loop
 loop-less c = search needs
 
 loop-again : tie.Need-loop-again Inv-loop μ-loop
-loop-again c =
-    (rw (← c .before .before .before .before .before .loop .inv .0, bound-pop _ _ _ (c .before .before .before .before .before .loop .d) (c .before .before .before .before .loop-test .taken), le-ltb _ _ (rw (c .before .part .ensures) at (c .if1 .left))),
-      (_, top _ _ _ _ _ _ (c .before .before .before .before .loop-test .taken) (c .before .before .before .before .before .loop .inv .1 .1) .over))
+loop-again c = (
+  rw (← c .before .before .before .before .before .loop .inv .0, bound-pop _ _ _ (c .before .before .before .before .before .loop .d) (c .before .before .before .before .loop-test .taken), le-ltb _ _ (rw (c .before .part .ensures) at (c .if1 .left))),
+  (_, top _ _ _ _ _ _ (c .before .before .before .before .loop-test .taken) (c .before .before .before .before .before .loop .inv .1 .1) .over),
+)
 
 returns-2 : tie.Need-returns-2 Inv-loop μ-loop
 returns-2 c = rw (← c .before .loop .inv .0, bound-none _ _ _ _ (c .loop-test .left))

@@ -1,0 +1,4 @@
+pub mod Leaving
+pub mod Freeing
+pub mod Root
+pub mod Under

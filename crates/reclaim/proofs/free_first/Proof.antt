@@ -1,0 +1,124 @@
+use borrow.Author.Needs.{needs}
+use mathlib.Core.Bool.{false}
+use mathlib.Core.Path.{sym, _∙_}
+use native.Mathlib.Omega.{arith}
+use lib.ListN.{length, take}
+use Rattle.model.specs.Words.{freeAll}
+use Rattle.model.specs.Reading.{rootNodes}
+use Rattle.model.specs.Paths.{lastOf}
+use Rattle.walk.specs.Left.{left}
+use Rattle.reclaim.proofs.Freeing.{Freeable, enough, no-more, last-top, goes-out, inside, deep, goes-in}
+use Rattle.reclaim.proofs.Root.{start-freeing}
+use Rattle.reclaim.proofs.free_first.Statement.{statement}
+use Rattle.reclaim.proofs.free_first.Tie as tie
+
+abbrev Inv-loop : tie.InvT-loop
+Inv-loop l s₀ k path₀ freed₀ s path freed =
+    Freeable (l .capacity) (l .pool) (freeAll (l .capacity) s₀ (take k (rootNodes (l .capacity) s₀ (lastOf path₀ .node .0)))) k freed s path
+
+abbrev μ-loop : tie.MeasureT-loop
+μ-loop l s₀ k path₀ freed₀ s path freed = length (left false (l .capacity) (l .pool) s path)
+
+loop-holds : tie.Need-loop-holds Inv-loop μ-loop
+loop-holds c = start-freeing (c .before .args .l .capacity) (c .before .args .l .pool) (c .before .args .s .now) (c .before .args .root .0) (c .before .args .k) (c .before .pre)
+
+same-length : tie.Need-same-length Inv-loop μ-loop
+same-length c = c .before .before .loop .inv .header .long ∙ sym (c .before .before .before .before .pre .header .long)
+
+returns : tie.Need-returns Inv-loop μ-loop
+returns c = enough (c .before .before .loop .inv) (omega (arith, c .if1 .taken))
+
+sub-at : tie.Need-sub-at Inv-loop μ-loop
+sub-at c = search needs
+
+mul-top : tie.Need-mul-top Inv-loop μ-loop
+mul-top c = omega (arith, last-top (c .before .before .loop .inv) (c .before .loop-test .taken) .deep)
+
+element-copy-out-top : tie.Need-element-copy-out-top Inv-loop μ-loop
+element-copy-out-top c = omega (arith, last-top (c .before .before .loop .inv) (c .before .loop-test .taken) .deep)
+
+has-child-requires : tie.Need-has-child-requires Inv-loop μ-loop
+has-child-requires c κs = (c .before .before .before .before .before .loop .inv .header, last-top (c .before .before .before .before .before .loop .inv) (c .before .before .before .before .loop-test .taken) .inside)
+
+child-requires : tie.Need-child-requires Inv-loop μ-loop
+child-requires c κs =
+    let f = c .before .before .before .before .before .before .before .before .loop .inv in
+    let z = c .before .before .before .before .before .before .before .loop-test .taken in
+    let e = sym (c .before .before .has-child .ensures) ∙ c .before .if2 .taken in
+    let t = last-top f z in
+    (f .header, (t .inside, omega (arith, inside f z e, t .narrow)))
+
+add-t25 : tie.Need-add-t25 Inv-loop μ-loop
+add-t25 c =
+    let f = c .before .before .before .before .before .before .before .before .before .loop .inv in
+    let z = c .before .before .before .before .before .before .before .before .loop-test .taken in
+    let e = sym (c .before .before .before .has-child .ensures) ∙ c .before .before .if2 .taken in
+    omega (arith, inside f z e, last-top f z .narrow, f .header .cap-high)
+
+mul-path : tie.Need-mul-path Inv-loop μ-loop
+mul-path c = omega (arith, last-top (c .before .before .before .before .before .before .before .before .before .loop .inv) (c .before .before .before .before .before .before .before .before .loop-test .taken) .deep)
+
+element-set-from-path : tie.Need-element-set-from-path Inv-loop μ-loop
+element-set-from-path c = omega (arith, last-top (c .before .before .before .before .before .before .before .before .before .loop .inv) (c .before .before .before .before .before .before .before .before .loop-test .taken) .deep)
+
+mul-t27 : tie.Need-mul-t27 Inv-loop μ-loop
+mul-t27 c = omega (arith, last-top (c .before .before .before .before .before .before .before .before .before .loop .inv) (c .before .before .before .before .before .before .before .before .loop-test .taken) .deep)
+
+element-set-from-path-2 : tie.Need-element-set-from-path-2 Inv-loop μ-loop
+element-set-from-path-2 c = deep (c .before .before .before .before .before .before .before .before .before .loop .inv) (c .before .before .before .before .before .before .before .before .loop-test .taken) (sym (c .before .before .before .has-child .ensures) ∙ c .before .before .if2 .taken)
+
+add-path : tie.Need-add-path Inv-loop μ-loop
+add-path c = omega (arith, last-top (c .before .before .before .before .before .before .before .before .before .loop .inv) (c .before .before .before .before .before .before .before .before .loop-test .taken) .deep)
+
+loop-less : tie.Need-loop-less Inv-loop μ-loop
+loop-less c = rw (c .child .ensures) (goes-in (c .before .before .before .before .before .before .before .before .before .loop .inv) (c .before .before .before .before .before .before .before .before .loop-test .taken) (sym (c .before .before .before .has-child .ensures) ∙ c .before .before .if2 .taken) .less)
+
+loop-again : tie.Need-loop-again Inv-loop μ-loop
+loop-again c = rw (c .child .ensures) (goes-in (c .before .before .before .before .before .before .before .before .before .loop .inv) (c .before .before .before .before .before .before .before .before .loop-test .taken) (sym (c .before .before .before .has-child .ensures) ∙ c .before .before .if2 .taken) .free)
+
+free-node-requires : tie.Need-free-node-requires Inv-loop μ-loop
+free-node-requires c κs = (c .before .before .before .before .before .before .before .before .loop .inv .header, (last-top (c .before .before .before .before .before .before .before .before .loop .inv) (c .before .before .before .before .before .before .before .loop-test .taken) .inside, omega (arith, c .before .before .before .before .before .before .before .before .loop .inv .room)))
+
+add-freed : tie.Need-add-freed Inv-loop μ-loop
+add-freed c = search needs
+
+loop-less-2 : tie.Need-loop-less-2 Inv-loop μ-loop
+loop-less-2 c = rw (c .before .before .free-node .ensures) (goes-out (c .before .before .before .before .before .before .before .before .before .before .before .loop .inv) (c .before .before .before .before .before .before .before .before .before .before .loop-test .taken) (c .before .before .before .before .before .before .before .before .before .if1 .left) (sym (c .before .before .before .before .before .has-child .ensures) ∙ c .before .before .before .before .if2 .left) .less)
+
+loop-again-2 : tie.Need-loop-again-2 Inv-loop μ-loop
+loop-again-2 c = rw (c .before .before .free-node .ensures) (goes-out (c .before .before .before .before .before .before .before .before .before .before .before .loop .inv) (c .before .before .before .before .before .before .before .before .before .before .loop-test .taken) (c .before .before .before .before .before .before .before .before .before .if1 .left) (sym (c .before .before .before .before .before .has-child .ensures) ∙ c .before .before .before .before .if2 .left) .free)
+
+same-length-2 : tie.Need-same-length-2 Inv-loop μ-loop
+same-length-2 c = c .before .loop .inv .header .long ∙ sym (c .before .before .before .pre .header .long)
+
+returns-2 : tie.Need-returns-2 Inv-loop μ-loop
+returns-2 c = no-more (c .before .loop .inv) (omega (arith, c .loop-test .left))
+
+pub free-first-spec : {M : Type 1} → statement M
+free-first-spec =
+    tie.close
+    (tie.spec
+    Inv-loop
+    μ-loop
+    loop-holds
+    same-length
+    returns
+    sub-at
+    mul-top
+    element-copy-out-top
+    has-child-requires
+    child-requires
+    add-t25
+    mul-path
+    element-set-from-path
+    mul-t27
+    element-set-from-path-2
+    add-path
+    loop-less
+    loop-again
+    free-node-requires
+    add-freed
+    loop-less-2
+    loop-again-2
+    same-length-2
+    returns-2)
