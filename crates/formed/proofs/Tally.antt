@@ -75,7 +75,7 @@ module _ (C P : ℕ) where
 
   -- what the visits of a passed node are
   module _ (ends : Bool) (h m : ℕ) (t : Level (suc h)) (r : ℕ) (b : Limit) where
-    abbrev lower : List Visit
+    abbrev pub lower : List Visit
     lower = overPairs (visits ends C P h (t .number)) (t .pairs) (last h (t .end) b)
 
     pub visits-is : T (ltb (t .number) P) → T (passes ends C h t r b) → visits ends C P (suc h) m t r b ≡ Enter (t .number) ∷ (lower ++ (Leave (t .number) ∷ []))
@@ -86,7 +86,7 @@ module _ (C P : ℕ) where
   unfolding passes
   sound-passes h t r b s = rw (is-true (sound C h t r b) s) tt
 
-  sound-visits : (h m : ℕ) (t : Level (suc h)) (r : ℕ) (b : Limit) → AllSound C P (suc h) t r b → visits false C P (suc h) m t r b ≡ Enter (t .number) ∷ (lower false h m t r b ++ (Leave (t .number) ∷ []))
+  pub sound-visits : (h m : ℕ) (t : Level (suc h)) (r : ℕ) (b : Limit) → AllSound C P (suc h) t r b → visits false C P (suc h) m t r b ≡ Enter (t .number) ∷ (lower false h m t r b ++ (Leave (t .number) ∷ []))
   unfolding AllSound
   sound-visits h m t r b g = visits-is false h m t r b (g .0) (sound-passes h t r b (g .1))
 
@@ -126,7 +126,7 @@ module _ (C P : ℕ) where
 
 -- Entries ------------------------------------------------------------------------------------------------
 
-leaf-visits : (C P m : ℕ) (ps : List (ℕ × ℕ)) (b : Limit) → overPairs (visits false C P 0 m) ps b ≡ []
+pub leaf-visits : (C P m : ℕ) (ps : List (ℕ × ℕ)) (b : Limit) → overPairs (visits false C P 0 m) ps b ≡ []
 unfolding overPairs visits
 leaf-visits C P m [] b = refl
 leaf-visits C P m (p ∷ ps) b = leaf-visits C P m ps b
@@ -180,12 +180,12 @@ module _ (C P : ℕ) (w : List ℕ) (n : ℕ) where
   abbrev tall : ℕ
   tall = height C w n
 
-  tree-visits : tall ≤ maxHeight → AllSound C P (suc tall) (level C w (suc tall) n) (start C w n) Open
+  pub tree-visits : tall ≤ maxHeight → AllSound C P (suc tall) (level C w (suc tall) n) (start C w n) Open
       → rootVisits false C P w n ≡ visits false C P (suc tall) n (level C w (suc tall) n) (start C w n) Open
   unfolding rootVisits
   tree-visits l g = rw (not-empty C P w tall n (start C w n) Open g, le-leb tall maxHeight l)
 
-  blank-visits : (ends : Bool) → EmptyRoot C w n → rootVisits ends C P w n ≡ Enter n ∷ Leave n ∷ []
+  pub blank-visits : (ends : Bool) → EmptyRoot C w n → rootVisits ends C P w n ≡ Enter n ∷ Leave n ∷ []
   unfolding rootVisits
   blank-visits ends e = rw (is-empty C w n e)
 

@@ -1,0 +1,3 @@
+pub mod Following
+pub mod Passes
+pub mod Exactly

@@ -1,0 +1,24 @@
+use borrow.Author.Needs.{needs}
+use mathlib.Core.Path.{_≡_, sym, _∙_}
+use borrow.Author.Tests.{not-true, not-false}
+use Rattle.full_check.proofs.Following.{end-chain, end-count, end-held}
+use Rattle.full_check.proofs.check_chain.Statement.{statement}
+use Rattle.full_check.proofs.check_chain.Tie as tie
+
+follow-chain-requires : tie.Need-follow-chain-requires
+follow-chain-requires c κs = search needs
+
+returns : tie.Need-returns
+returns c = sym (end-chain _ _ _ (sym (c .before .follow-chain .ensures) ∙ not-true _ (c .if1 .taken)))
+
+sub-if2 : tie.Need-sub-if2
+sub-if2 c = search needs
+
+returns-2 : tie.Need-returns-2
+returns-2 c = sym (end-count _ _ _ (sym (c .before .before .before .before .follow-chain .ensures) ∙ not-false _ (c .before .before .before .if1 .left)) (c .before .before .before .before .before .before .pre .1) (c .if2 .taken))
+
+returns-3 : tie.Need-returns-3
+returns-3 c = sym (end-held _ _ _ (sym (c .before .before .before .before .follow-chain .ensures) ∙ not-false _ (c .before .before .before .if1 .left)) (c .before .before .before .before .before .before .pre .1) (c .if2 .left))
+
+pub check-chain-spec : {M : Type 1} → statement M
+check-chain-spec = tie.close (tie.spec follow-chain-requires returns sub-if2 returns-2 returns-3)

@@ -1,0 +1,86 @@
+// The full check: it accepts exactly the well-formed stores.
+
+ghost use mathlib.Core.Path.{_≡_};
+ghost use Prim.Native.Nat.{_+_, _-_, _≤_, _<_};
+ghost use Rattle.model.specs.FullCheck.{chainEnds, fullCheck};
+ghost use Rattle.model.specs.Refusals.{checkedAnswer};
+ghost use Rattle.node.specs.Layout.{Fits, opened};
+ghost use Rattle.node.specs.declared.header.Opened.the-variants.{Open};
+ghost use Rattle.full_check.specs.Ending.{ending};
+use model::answer::Checked;
+use model::answer::Refusal;
+use model::id::NodeNo;
+use model::node::RowPageIndexNodeHeader;
+use node::header;
+use node::header::Opened;
+use node::header::StoreHeader;
+use node::layout::Layout;
+use survey;
+use survey::Counts;
+use survey::Survey;
+
+// Whether k free nodes from head on lead to the end of the chain.
+pub fn follow_chain(l: Layout, s: &[u64], head: NodeNo, k: u64) -> bool
+    requires { ⌜ Fits l (now s) ⌝ }
+    ensures { λ r. ⌜ r ≡ chainEnds (l .capacity) (l .pool) (now (s .entry)) (head .0) k ⌝ }
+{
+    let mut n = head;
+    let mut more = k;
+    while 0 < more {
+        if l.pool <= n.0 {
+            return false;
+        }
+        let mark = l.part(s, n, 0);
+        if mark != RowPageIndexNodeHeader::FREE_MARK {
+            return false;
+        }
+        n = NodeNo(l.part(s, n, 1));
+        more -= 1;
+    }
+    n.0 == l.pool
+}
+
+// The chain, after a sound tree with these counts.
+pub fn check_chain(h: StoreHeader, s: &[u64], counts: Counts) -> Checked
+    requires { ⌜ Fits (h .layout) (now s) ⌝ }
+    requires { ⌜ h .«free_count» ≤ h .layout .pool ⌝ }
+    ensures { λ r. ⌜ checkedAnswer r ≡ ending h (now (s .entry)) counts ⌝ }
+{
+    let damaged = Checked::Refused(Refusal::Unsound(NodeNo(NodeNo::HEADER)));
+    let ends = follow_chain(h.layout, s, h.free_head, h.free_count);
+    if !ends {
+        return damaged;
+    }
+    if counts.nodes != h.layout.pool - h.free_count {
+        return damaged;
+    }
+    Checked::WellFormed {
+        entries: counts.entries,
+        nodes: counts.nodes,
+        free: h.free_count,
+    }
+}
+
+// An open store.
+pub fn check_open(h: StoreHeader, s: &[u64]) -> Checked
+    requires { ⌜ opened (now s) ≡ Open h ⌝ }
+    ensures { λ r. ⌜ checkedAnswer r ≡ fullCheck (now (s .entry)) ⌝ }
+{
+    match survey::survey_tree(h.layout, s, false, h.root) {
+        Survey::Unsound(n) => Checked::Refused(Refusal::Unsound(n)),
+        Survey::Counted(counts) => match survey::survey_tree(h.layout, s, true, h.root) {
+            Survey::Unsound(n) => Checked::Refused(Refusal::Unsound(n)),
+            Survey::Counted(_) => check_chain(h, s, counts),
+        },
+    }
+}
+
+// Whether the store is well-formed, with its counts; or the first fault.
+pub fn full_check(s: &[u64]) -> Checked
+    ensures { λ r. ⌜ checkedAnswer r ≡ fullCheck (now (s .entry)) ⌝ }
+{
+    match header::open(s) {
+        Opened::Refused(r) => Checked::Refused(r),
+        Opened::Open(h) => check_open(h, s),
+    }
+}

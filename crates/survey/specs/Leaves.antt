@@ -1,0 +1,18 @@
+-- How many leaves a tree has.
+use Prim.Native.Nat.{ℕ, zero, suc, _+_}
+use mathlib.Core.List.{List, [], _∷_}
+use Rattle.model.specs.Words.{part, height}
+use Rattle.model.specs.Tree.{Node, Level}
+use Rattle.model.specs.Reading.{rootTree}
+
+-- f of each pair, added up
+unfoldable pub sumPairs : {K : Type 0} → (K → ℕ) → List (ℕ × K) → ℕ
+sumPairs f [] = 0
+sumPairs f (p ∷ ps) = f (p .1) + sumPairs f ps
+
+unfoldable pub leafCount : (h : ℕ) → Level (suc h) → ℕ
+leafCount zero t = 1
+leafCount (suc h) t = sumPairs (leafCount h) (t .pairs)
+
+abbrev pub rootLeaves : ℕ → List ℕ → ℕ → ℕ
+rootLeaves C w n = leafCount (height C w n) (rootTree C w n)
