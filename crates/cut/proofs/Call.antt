@@ -20,14 +20,10 @@ use Rattle.model.proofs.Once.{own}
 use Rattle.model.proofs.Lookup.{not-empty, is-empty}
 use Rattle.formed.specs.Well.{Well}
 use Rattle.formed.specs.Formed.{Blank, Whole, blank, held, treeOf, Formed}
-use Rattle.cut.proofs.Rests.{well-sound}
+use Rattle.formed.proofs.Clean.{well-sound}
+use Rattle.formed.proofs.Bridge.{blank-empty, formed-root}
+use Rattle.formed.proofs.Opens.{formed-header}
 use Rattle.cut.proofs.Check.{run, scan-sound}
-use Rattle.cut.proofs.Few.{most}
-
-chain-low : (C P : ℕ) (w : List ℕ) (n : ℕ) (ns : List ℕ) → Chain C P w n ns → n ≤ P
-unfolding Chain
-chain-low C P w n [] c = omega (arith, c)
-chain-low C P w n (m ∷ ms) c = omega (arith, c .0, c .1)
 
 -- nothing changes
 abbrev refuse : List ℕ → ℕ → ℕ → Outcome
@@ -37,58 +33,10 @@ module _ (C P : ℕ) (w : List ℕ) (h r : ℕ) (ns : List ℕ) (formed : Formed
   abbrev tree : Level (suc h)
   tree = treeOf C w h
 
-  -- tree nodes and free nodes are at most P together
-  pub room : freeCount w + length (nodes (suc h) tree) ≤ P
-  room =
-      let all = nodes (suc h) tree ++ ns in
-      omega (
-        arith,
-        formed .free,
-        length-append (nodes (suc h) tree) ns,
-        most all P
-            (λ m p. omega (arith, occ-append m (nodes (suc h) tree) ns, rw (le-ltb m P p) at (formed .cover m)))
-            (λ m. by-test (ltb m P) (λ t. omega (arith, occ-append m (nodes (suc h) tree) ns, rw t at (formed .cover m))) (λ t. omega (arith, occ-append m (nodes (suc h) tree) ns, rw t at (formed .cover m)))),
-      )
-
-  root-in : Whole C P h tree r → root w < P
-  unfolding Well level
-  root-in (blank b) = b .inside
-  root-in (held g) = ltb→lt (root w) P (g .0)
-
-  pub root-inside : root w < P
-  root-inside = root-in (formed .whole)
-
-  header-ok : headerOk w ≡ true
-  unfolding headerOk
-  header-ok =
-      let d = formed .header in
-      rw (
-        formed .capacity-is,
-        formed .pool-is,
-        le-leb 2 C (d .cap-low),
-        le-leb C 4094 (d .cap-high),
-        le-leb 1 P (d .pool-low),
-        le-leb P 65535 (d .pool-high),
-        eq-eqb (length w) (storeLength C P) (d .long),
-        le-leb (root w) P (omega (arith, root-inside)),
-        le-leb (freeHead w) P (chain-low C P w (freeHead w) ns (formed .chain)),
-        le-leb (freeCount w) P (omega (arith, room)),
-      )
-
   is-open : eqb (root w) P ≡ false
-  is-open = ne-eqb (root w) P (λ e. omega (arith, root-inside))
+  is-open = ne-eqb (root w) P (λ e. omega (arith, formed-root C P w h r ns formed .inside))
 
   module _ (none : Blank P h tree r) where
-    empty-root : EmptyRoot C w (root w)
-    unfolding level
-    empty-root =
-        record {
-          leaf = none .high;
-          none = sym (length-pairs C w (level C w h) (root w) 0 (count C w (root w))) ∙ ap length (none .none);
-          low = omega (arith, none .low, none .begin);
-          ends = none .ends;
-        }
-
     empty-start : start C w (root w) ≡ r
     unfolding level
     empty-start = none .begin
@@ -114,7 +62,7 @@ module _ (C P : ℕ) (w : List ℕ) (h r : ℕ) (ns : List ℕ) (formed : Formed
     pub asked-blank : Blank P h tree r
         → pruneCheckpointPrefix w s e ids ≡ pick (eqb (length ids) 0 || leb e s) (refuse w 7 0) (pick (eqb s r) (refuse w 11 0) (refuse w 8 r))
     unfolding pruneCheckpointPrefix rootSound
-    asked-blank none = rw (header-ok, formed .pool-is, is-open, formed .capacity-is, is-empty C w (root w) (empty-root none), empty-start none)
+    asked-blank none = rw (formed-header C P w h r ns formed, formed .pool-is, is-open, formed .capacity-is, is-empty C w (root w) (blank-empty C P w h r none), empty-start none)
 
     module _ (well : Well C P (suc h) tree r Open) where
       by-entries : pruneRoot C P w (root w) h e ids tree ≡ pruneScanned C P w (root w) h e tree (ranOut e (run e (entries (suc h) tree r Open) (on ids 0 0)))
@@ -128,4 +76,4 @@ module _ (C P : ℕ) (w : List ℕ) (h r : ℕ) (ns : List ℕ) (formed : Formed
           ≡ pick (eqb (length ids) 0 || leb e s) (refuse w 7 0)
           (pick (eqb s r) (pruneScanned C P w (root w) h e tree (ranOut e (run e (entries (suc h) tree r Open) (on ids 0 0)))) (refuse w 8 r))
       unfolding pruneCheckpointPrefix
-      asked-held = rw (header-ok, formed .pool-is, is-open, formed .capacity-is, root-ok well, not-blank well, root-own well .0, root-own well .1, by-entries)
+      asked-held = rw (formed-header C P w h r ns formed, formed .pool-is, is-open, formed .capacity-is, root-ok well, not-blank well, root-own well .0, root-own well .1, by-entries)

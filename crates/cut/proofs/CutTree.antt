@@ -12,8 +12,9 @@ use Rattle.model.specs.Reading.{entries, occ, nodes}
 use Rattle.model.specs.Cut.{Rest, gone, stays, ifGone, cutPairs, trim, cut, went}
 use Rattle.model.proofs.Frame.{occ-append}
 use Rattle.formed.specs.Well.{Well}
+use Rattle.formed.proofs.Clean.{well-sound}
 use Rattle.cut.specs.Cutting.{treeEntries, belowRoot, treeNodes, goneNodes, collapse, copiedNodes, dropTo, Lands}
-use Rattle.cut.proofs.Rests.{upTo, cut-number, well-sound}
+use Rattle.cut.proofs.Rests.{upTo, cut-number}
 use Rattle.cut.proofs.Went.{ofRest, rest-nodes}
 use Rattle.cut.proofs.Stay.{CutTo, rest-entries}
 use Rattle.cut.proofs.CutWell.{RestFits, rest-well}

@@ -14,8 +14,9 @@ use Rattle.model.specs.Cut.{Rest, gone, stays, keep, cutPairs, trim, cut}
 use Rattle.model.proofs.Tests.{by-test, and-r, both}
 use Rattle.model.proofs.Sound.{rows, rises, Soundly, soundly, sound-of, sound-below}
 use Rattle.formed.specs.Well.{Well}
+use Rattle.formed.proofs.Clean.{well-sound}
 use Rattle.cut.specs.Cutting.{dropTo, Lands}
-use Rattle.cut.proofs.Rests.{upTo, withPairs, cut-length, T-lt, T-eq, well-sound}
+use Rattle.cut.proofs.Rests.{upTo, withPairs, cut-length, T-lt, T-eq}
 use Rattle.cut.proofs.Stay.{Starts, starts, Some, some, sound-starts, drop-none, drop-gone, drop-some, CutTo, rest-entries}
 
 lands-some : (e : ℕ) (a b : List Entry) → Some a → Lands e (a ++ b) → Lands e a

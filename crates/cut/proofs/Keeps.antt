@@ -19,9 +19,12 @@ use Rattle.model.proofs.Frame.{occ-append}
 use Rattle.model.proofs.Once.{own}
 use Rattle.formed.specs.Well.{Well}
 use Rattle.formed.specs.Formed.{Whole, blank, held, treeOf, Formed}
+use Rattle.formed.proofs.Clean.{well-sound}
+use Rattle.formed.proofs.Bridge.{formed-root}
+use Rattle.formed.proofs.Opens.{formed-sum}
 use Rattle.cut.specs.Cutting.{Tree, treeEntries, treeNodes, goneNodes, collapse, copiedNodes}
 use Rattle.cut.specs.Pruned.{collapsedLevels, Pruned, Accepts}
-use Rattle.cut.proofs.Rests.{by-rest, well-sound}
+use Rattle.cut.proofs.Rests.{by-rest}
 use Rattle.cut.proofs.Stay.{Starts, starts, sound-starts}
 use Rattle.cut.proofs.Collapse.{collapse-levels}
 use Rattle.cut.proofs.CutTree.{occ-reverse, length-reverse, root-rest, gone-entries, gone-nodes, cut-well, cut-entries, cut-occ, cut-count}
@@ -29,7 +32,6 @@ use Rattle.cut.proofs.PruneTree.{Left, emptyTree, empty-nodes, prune-re
 use Rattle.cut.proofs.Check.{run, Used, used-run, no-way}
 use Rattle.cut.proofs.Linked.{Linked, sound-linked}
 use Rattle.cut.proofs.Copies.{CopiesLaw, copies-sound}
-use Rattle.cut.proofs.Call.{room, root-inside}
 
 pub or-false : (a b : Bool) → (a || b) ≡ false → (a ≡ false) × (b ≡ false)
 or-false true b p = let z : _≡_ {A = ℕ} 0 1 = cc in absurd (omega arith)
@@ -159,12 +161,12 @@ module _ (C P : ℕ) (w : List ℕ) (h r : ℕ) (ns : List ℕ) (formed : Formed
             no-copies,
             add-zero,
             le-leb (freeCount w + length (goneNodes h e before)) P
-                (omega (arith, room C P w h r ns formed, ap length parts, length-append (goneNodes h e before) (root w ∷ []))),
+                (omega (arith, formed-sum C P w h r ns formed, ap length parts, length-append (goneNodes h e before) (root w ∷ []))),
             k-is,
           )
 
       inside : root w < P
-      inside = root-inside C P w h r ns formed
+      inside = formed-root C P w h r ns formed .inside
 
       no-entries : treeEntries (emptyTree (root w) e) e Open ≡ []
       unfolding entries overPairs
@@ -216,7 +218,7 @@ module _ (C P : ℕ) (w : List ℕ) (h r : ℕ) (ns : List ℕ) (formed : Formed
       cut-is : outcome ≡ record { answer = result (length ids ∷ length freeing ∷ length (copiedNodes h y) ∷ []); words = pruneTree C w (root w) h e before (copiedNodes h y) }
       unfolding pruneScanned pruneWith
       cut-is =
-          rw (the-copies, ← many-freed, le-leb (freeCount w + length freeing) P (omega (arith, room C P w h r ns formed, counts)), k-is)
+          rw (the-copies, ← many-freed, le-leb (freeCount w + length freeing) P (omega (arith, formed-sum C P w h r ns formed, counts)), k-is)
 
       new-well : Well C P (suc (new .0)) (new .1) e Open
       unfolding level

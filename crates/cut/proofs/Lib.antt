@@ -11,7 +11,6 @@ pub mod PruneTree
 pub mod Check
 pub mod Linked
 pub mod Copies
-pub mod Few
 pub mod Call
 pub mod Keeps
 pub mod Told

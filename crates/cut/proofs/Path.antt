@@ -16,7 +16,8 @@ use Rattle.model.proofs.Tests.{by-test, and-l}
 use Rattle.model.proofs.Sound.{rows, soundly}
 use Rattle.model.proofs.Frame.{Same, Narrow, same-pairs, kept, occ-append, occ-self, length-pairs, occ-child, all-child}
 use Rattle.model.proofs.Writes.{pairs-same}
-use Rattle.cut.proofs.Rests.{upTo, withPairs, by-rest, gone-not, stays-is, sound-narrow}
+use Rattle.formed.proofs.Clean.{sound-narrow}
+use Rattle.cut.proofs.Rests.{upTo, withPairs, by-rest, gone-not, stays-is}
 use Rattle.cut.proofs.Trim.{trimmed-header, trimmed-node, trimmed-with, trimmed-few}
 
 -- the first pair that stays, among those from i on

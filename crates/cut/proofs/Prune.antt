@@ -17,8 +17,8 @@ use Rattle.model.proofs.Tests.{by-test}
 use Rattle.formed.specs.Well.{Well}
 use Rattle.formed.specs.Formed.{Blank, Whole, blank, held, treeOf, Formed}
 use Rattle.formed.specs.Holds.{entriesFrom}
+use Rattle.formed.proofs.Clean.{well-sound}
 use Rattle.cut.specs.Pruned.{Pruned, Accepts, Follows}
-use Rattle.cut.proofs.Rests.{well-sound}
 use Rattle.cut.proofs.Stay.{sound-starts}
 use Rattle.cut.proofs.Check.{run}
 use Rattle.cut.proofs.Linked.{Linked, sound-linked}

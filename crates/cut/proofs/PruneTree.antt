@@ -20,8 +20,9 @@ use Rattle.model.proofs.Frame.{Same, Narrow, kept, occ-append, occ-self}
 use Rattle.model.proofs.Once.{own}
 use Rattle.model.proofs.Writes.{occ-cons, occ-here, occ-in, emptied-keeps, emptied-word, emptied-length, freed-length, free-all-length, free-all-keeps, free-all-word, free-all-count, chain-same, chain-freed}
 use Rattle.formed.specs.Well.{Well}
+use Rattle.formed.proofs.Clean.{well-sound, sound-narrow}
 use Rattle.cut.specs.Cutting.{Tree, treeNodes, goneNodes, collapse, copiedNodes, dropTo, Lands}
-use Rattle.cut.proofs.Rests.{upTo, cut-number, well-sound, sound-narrow}
+use Rattle.cut.proofs.Rests.{upTo, cut-number}
 use Rattle.cut.proofs.Trim.{trims-word}
 use Rattle.cut.proofs.Copy.{Collapsed, CopyLaw, copy-all, copies-word}
 use Rattle.cut.proofs.Path.{Trimmed, PathLaw, path-trim}

@@ -61,24 +61,3 @@ T-lt a b l = rw (lt-ltb a b l) tt
 
 pub T-eq : (a b : ℕ) → a ≡ b → T (eqb a b)
 T-eq a b l = rw (eq-eqb a b l) tt
-
-pub all-to : {K : Type 0} (Q R : K → ℕ → Limit → Type 0) → ((x : K) (r : ℕ) (b : Limit) → Q x r b → R x r b) → (ps : List (ℕ × K)) (b : Limit) → allPairs Q ps b → allPairs R ps b
-unfolding allPairs
-all-to Q R f [] b a = tt
-all-to Q R f (p ∷ ps) b a = (f (p .1) (p .0) (next ps b) (a .0), all-to Q R f ps b (a .1))
-
-pub well-sound : (C P h : ℕ) (t : Level h) (r : ℕ) (b : Limit) → Well C P h t r b → AllSound C P h t r b
-unfolding Well AllSound
-well-sound C P zero x r b g = g
-well-sound C P (suc h) t r b g = (g .0, g .1, all-to (Well C P h) (AllSound C P h) (well-sound C P h) (t .pairs) (last h (t .end) b) (g .3))
-
--- what does not look at rows and limits
-all-any : {K : Type 0} (Q : K → ℕ → Limit → Type 0) (R : K → Type 0) → ((x : K) (r : ℕ) (b : Limit) → Q x r b → R x) → (ps : List (ℕ × K)) (b c : Limit) → allPairs Q ps b → allPairs (λ x r d. R x) ps c
-unfolding allPairs
-all-any Q R f [] b c a = tt
-all-any Q R f (p ∷ ps) b c a = (f (p .1) (p .0) (next ps b) (a .0), all-any Q R f ps b c (a .1))
-
-pub sound-narrow : (C P h : ℕ) (t : Level h) (r : ℕ) (b : Limit) → AllSound C P h t r b → Narrow C h t
-unfolding AllSound Narrow
-sound-narrow C P zero t r b g = tt
-sound-narrow C P (suc h) t r b g = (soundly C h t r b (g .1) .many, all-any (AllSound C P h) (Narrow C h) (sound-narrow C P h) (t .pairs) (last h (t .end) b) Open (g .2))

@@ -15,7 +15,7 @@ use Rattle.model.proofs.Tests.{by-test}
 use Rattle.model.proofs.Frame.{length-pairs, occ-append}
 use Rattle.model.proofs.Once.{own}
 use Rattle.formed.specs.Well.{Well}
-use Rattle.formed.specs.Formed.{Whole, blank, held, treeOf, Formed}
+use Rattle.formed.specs.Formed.{Blank, Whole, blank, held, treeOf, Formed}
 use Rattle.formed.proofs.Clean.{well-sound}
 use Rattle.formed.proofs.Ends.{sound-well, well-ends}
 use Rattle.formed.proofs.Chains.{chain-once, chain-free}
@@ -99,10 +99,20 @@ module _ (C P : ℕ) (w : List ℕ) (h r : ℕ) where
     pub sound : h ≤ maxHeight → SoundRoot C P w h (root w)
     pub ends : EndsFit (suc h) (treeOf C w h) (start C w (root w)) Open
 
+  pub blank-empty : Blank P h (treeOf C w h) r → EmptyRoot C w (root w)
+  unfolding level
+  blank-empty b =
+      record {
+        leaf = b .high;
+        none = sym (length-pairs C w (level C w h) (root w) 0 (count C w (root w))) ∙ ap length (b .none);
+        low = subst (λ (x : ℕ). x ≤ rowLimit) (sym (b .begin)) (b .low);
+        ends = b .ends;
+      }
+
   pub root-is : Whole C P h (treeOf C w h) r → RootIs
   unfolding Well level
   root-is (blank b) =
-      let e : EmptyRoot C w (root w) = record { leaf = b .high; none = sym (length-pairs C w (level C w h) (root w) 0 (count C w (root w))) ∙ ap length (b .none); low = subst (λ (x : ℕ). x ≤ rowLimit) (sym (b .begin)) (b .low); ends = b .ends } in
+      let e = blank-empty b in
       record { inside = b .inside; tall = b .high ∙ sym (b .leaf); begin = b .begin; sound = λ l. emptyTree e; ends = empty-fits C w h (root w) e }
   root-is (held g) =
       let z = well-sound C P (suc h) (treeOf C w h) r Open g in

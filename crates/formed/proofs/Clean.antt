@@ -6,12 +6,13 @@ use mathlib.Core.Path.{_≡_, refl, sym, _∙_, subst}
 use native.Mathlib.Omega.{arith}
 use lib.Dec.{T, ltb, eqb, ltb→lt}
 use Rattle.model.specs.Words.{pick}
-use Rattle.model.specs.Tree.{Limit, Below, endSound, sound, Level, next, last, overPairs, allPairs, Under, AllSound}
+use Rattle.model.specs.Tree.{Limit, Open, Below, endSound, sound, Level, next, last, overPairs, allPairs, Under, AllSound}
 use Rattle.model.specs.Reading.{Visit, Enter, Leave, Bad, endFits, passes, visits, Fault, clear, at, firstBad, unlessBad}
 use Rattle.model.proofs.Tests.{and-l, and-r, both, by-test, is-true}
 use Rattle.model.proofs.Sound.{rises, rows, soundly}
+use Rattle.model.proofs.Frame.{Narrow}
 use Rattle.formed.specs.Well.{Well}
-use Rattle.formed.proofs.Pairs.{all-map}
+use Rattle.formed.proofs.Pairs.{all-map, all-any}
 
 -- Visits with no Bad -------------------------------------------------------------------------------------
 
@@ -145,6 +146,12 @@ module _ (C P : ℕ) where
   unfolding Well AllSound
   well-sound zero t r b g = g
   well-sound (suc h) t r b g = (g .0, g .1, all-map (Well C P h) (AllSound C P h) (well-sound h) (t .pairs) (last h (t .end) b) (g .3))
+
+  -- a sound tree has at most C pairs in a node
+  pub sound-narrow : (h : ℕ) (t : Level h) (r : ℕ) (b : Limit) → AllSound C P h t r b → Narrow C h t
+  unfolding AllSound Narrow
+  sound-narrow zero t r b g = tt
+  sound-narrow (suc h) t r b g = (soundly C h t r b (g .1) .many, all-any (AllSound C P h) (Narrow C h) (sound-narrow h) (t .pairs) (last h (t .end) b) Open (g .2))
 
 -- The first branch whose end does not fit ----------------------------------------------------------------
 

@@ -1,21 +1,21 @@
 -- The header test, and that a well-formed store passes it and is open.
-use Prim.Native.Nat.{ℕ, _+_, _<_, _≤_}
+use Prim.Native.Nat.{ℕ, suc, _+_, _<_, _≤_}
 use mathlib.Core.List.{List}
-use mathlib.Core.Bool.{true, false}
-use mathlib.Core.Path.{_≡_}
+use mathlib.Core.Bool.{Bool, true, false}
+use mathlib.Core.Path.{_≡_, ap, _∙_}
 use mathlib.Core.Logic.{_≢_}
 use native.Mathlib.Omega.{arith}
 use lib.ListN.{length}
 use lib.Dec.{leb→le, eqb→eq}
-use borrow.Author.Tests.{le-leb, eq-eqb, ne-eqb}
-use Rattle.model.specs.Words.{capacity, pool, root, freeHead, freeCount, height, storeLength, Header}
-use Rattle.model.specs.Reading.{rootNodes}
+use borrow.Author.Tests.{le-leb, lt-ltb, eq-eqb, ne-eqb}
+use Rattle.model.specs.Words.{pick, capacity, pool, root, freeHead, freeCount, height, storeLength, Header}
+use Rattle.model.specs.Reading.{rootNodes, nodes, occ}
 use Rattle.model.specs.Refusals.{Answer, headerOk, whenOpen}
 use Rattle.model.specs.WellFormed.{WellFormed}
 use Rattle.model.proofs.Tests.{and-l, and-r, by-test, holds}
-use Rattle.formed.specs.Formed.{Formed}
+use Rattle.formed.specs.Formed.{treeOf, Formed}
 use Rattle.formed.proofs.Chains.{chain-low}
-use Rattle.formed.proofs.Bridge.{counts, well-formed}
+use Rattle.formed.proofs.Bridge.{counts, formed-root, well-formed}
 
 module _ (w : List ℕ) where
   pub record HeaderFits : Type 0 where
@@ -97,3 +97,10 @@ module _ (C P : ℕ) (w : List ℕ) (h r : ℕ) (ns : List ℕ) (F : Formed C P 
 
   pub formed-goes-on : {A : Type 0} (refuse : Answer → A) (a : A) → whenOpen w refuse a ≡ a
   formed-goes-on refuse a = goes-on w (well-formed C P w h r ns F) refuse a
+
+  -- tree nodes and free nodes are P together
+  pub formed-sum : freeCount w + length (nodes (suc h) (treeOf C w h)) ≡ P
+  formed-sum =
+      let q = formed-root C P w h r ns F in
+      let once : (m : ℕ) → m < P → occ m (nodes (suc h) (treeOf C w h)) + occ m ns ≡ 1 = λ m p. F .cover m ∙ ap (λ (t : Bool). pick t 1 0) (lt-ltb m P p) in
+      omega (arith, F .free, counts C P w h (root w) (q .inside) (q .sound (F .high)) ns (F .chain) once)

@@ -16,6 +16,12 @@ module _ {K : Type 0} (Q R S : K → ℕ → Limit → Type 0) where
 pub all-map : {K : Type 0} (Q R : K → ℕ → Limit → Type 0) → ((x : K) (r : ℕ) (b : Limit) → Q x r b → R x r b) → (ps : List (ℕ × K)) (b : Limit) → allPairs Q ps b → allPairs R ps b
 all-map Q R f ps b a = all-both Q Q R (λ x r c g k. f x r c g) ps b a a
 
+-- what does not look at rows and limits
+pub all-any : {K : Type 0} (Q : K → ℕ → Limit → Type 0) (R : K → Type 0) → ((x : K) (r : ℕ) (b : Limit) → Q x r b → R x) → (ps : List (ℕ × K)) (b c : Limit) → allPairs Q ps b → allPairs (λ x r d. R x) ps c
+unfolding allPairs
+all-any Q R f [] b c a = tt
+all-any Q R f (p ∷ ps) b c a = (f (p .1) (p .0) (next ps b) (a .0), all-any Q R f ps b c (a .1))
+
 -- what stands in no pair
 pub none-in : {K : Type 0} (m : ℕ) (Q : K → ℕ → Limit → Type 0) (ns : K → List ℕ) → ((x : K) (r : ℕ) (b : Limit) → Q x r b → occ m (ns x) ≡ 0)
     → (ps : List (ℕ × K)) (b : Limit) → allPairs Q ps b → occ m (inPairs ns ps) ≡ 0

@@ -11,11 +11,11 @@ use Rattle.model.specs.Reading.{Entry, entries, toRight}
 use Rattle.model.specs.Append.{appendStart}
 use Rattle.model.proofs.Frame.{length-pairs}
 use Rattle.formed.specs.Formed.{Blank, Whole, blank, held, treeOf}
+use Rattle.formed.proofs.Clean.{well-sound}
 use Rattle.growth.specs.Needed.{entriesEnd}
 use Rattle.growth.proofs.Shape.{AtLast, rightAt}
 use Rattle.growth.proofs.Last.{at-child, last-sound}
 use Rattle.growth.proofs.Edge.{right-some}
-use Rattle.growth.proofs.Hung.{well-sound}
 
 end-append : (q : ℕ) (a b : List Entry) → entriesEnd q (a ++ b) ≡ entriesEnd (entriesEnd q a) b
 unfolding entriesEnd

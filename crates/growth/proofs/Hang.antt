@@ -15,8 +15,9 @@ use Rattle.model.proofs.Words.{header-at, put-header, put-same, put-other, put-
 use Rattle.model.proofs.Frame.{Same, occ-self, nodes-self, kept}
 use Rattle.model.proofs.Once.{own, lower, some-pairs}
 use Rattle.model.proofs.Writes.{pairs-snoc, pairs-same, put-keeps, added-length, added-word, added-count, added-row, added-child, added-part, added-keeps}
+use Rattle.formed.proofs.Clean.{sound-narrow}
 use Rattle.growth.proofs.Shape.{Inside, Distinct, stalk, endAt, up, hung, rightAt}
-use Rattle.growth.proofs.Last.{sound-narrow, same-but-last, few-pairs, child-sound, last-sound, alone, below-child, right-in}
+use Rattle.growth.proofs.Last.{same-but-last, few-pairs, child-sound, last-sound, alone, below-child, right-in}
 use Rattle.growth.proofs.Fresh.{path-word, path-header, path-keeps, path-level}
 
 -- what hanging c in node n, of height p, does to the words; ns are the nodes taken

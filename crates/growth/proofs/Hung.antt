@@ -14,8 +14,9 @@ use Rattle.model.proofs.Tests.{and-l, both}
 use Rattle.model.proofs.Sound.{rises, rows, soundly, sound-of, sound-below}
 use Rattle.model.proofs.Frame.{occ-append}
 use Rattle.formed.specs.Well.{Well}
+use Rattle.formed.proofs.Clean.{well-sound}
 use Rattle.growth.proofs.Shape.{onLast, Tip, stalk, Inside, endAt, up, hung, Roomy}
-use Rattle.growth.proofs.Lists.{or-l, all-weaken, all-snoc, all-close, all-on-last, at-both, over-snoc, over-bound, over-on-last, occ-on-last, length-on-last, rows-on-last, rows-to, rows-snoc}
+use Rattle.growth.proofs.Lists.{or-l, all-snoc, all-close, all-on-last, at-both, over-snoc, over-bound, over-on-last, occ-on-last, length-on-last, rows-on-last, rows-to, rows-snoc}
 use Rattle.growth.proofs.Last.{occ-last}
 
 last-end : (e p old : ℕ) → last p (endAt p e old) Open ≡ last p e Open
@@ -24,13 +25,8 @@ last-end e zero old = refl
 last-end e (suc p) old = refl
 
 module _ (C P : ℕ) where
-  pub well-sound : (h : ℕ) (t : Level h) (r : ℕ) (b : Limit) → Well C P h t r b → AllSound C P h t r b
-  unfolding Well AllSound
-  well-sound zero t r b g = g
-  well-sound (suc h) t r b g = (g .0, g .1, all-weaken (Well C P h) (AllSound C P h) (well-sound h) (t .pairs) (last h (t .end) b) (g .3))
-
   pub well-below : (h : ℕ) (t : Level h) (r : ℕ) (b : Limit) → Well C P h t r b → Under r b
-  well-below h t r b g = sound-below C P h t r b (well-sound h t r b g)
+  well-below h t r b g = sound-below C P h t r b (well-sound C P h t r b g)
 
   module _ (s : ℕ) where
     -- a tree of the right edge is off it where row s follows, and so are its pairs

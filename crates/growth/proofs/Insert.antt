@@ -16,15 +16,17 @@ use Rattle.model.specs.Append.{appendStart, Room, room, chainSound, appendAt, a
 use Rattle.model.proofs.Tests.{by-test}
 use Rattle.model.proofs.Frame.{occ-nil}
 use Rattle.formed.specs.Formed.{Whole, blank, held, treeOf, Formed}
+use Rattle.formed.proofs.Clean.{well-sound}
+use Rattle.formed.proofs.Bridge.{root-is, formed-root}
+use Rattle.formed.proofs.Opens.{formed-header}
 use Rattle.growth.specs.Needed.{neededFrom, needed}
 use Rattle.growth.specs.Inserted.{endRow, wanted, verdict, Passes, told, Appended}
 use Rattle.growth.proofs.Shape.{rightAt}
-use Rattle.growth.proofs.Hung.{well-sound}
 use Rattle.growth.proofs.Edge.{needed-from}
 use Rattle.growth.proofs.Ends.{start-ends}
 use Rattle.growth.proofs.Taken.{chain-passes}
 use Rattle.growth.proofs.Keeps.{at-most, spot, blank-spot, append-keeps}
-use Rattle.growth.proofs.Opened.{root-inside, header-ok, root-height, root-leaf}
+use Rattle.growth.proofs.Opened.{root-leaf}
 use Rattle.growth.proofs.Verdict.{ruled, accepted, refusals, verdict-five, verdict-fine, told-words, told-answer, told-refused}
 
 -- where the chain is sound, an append to leaf l is told by its verdict
@@ -54,7 +56,7 @@ module _ (C P : ℕ) (w : List ℕ) (h r : ℕ) (ns : List ℕ) (F : Formed C P 
 
   room-spot : room C w (root w) ≡ spot C w h
   unfolding room
-  room-spot = rw (root-height C P w h r (F .whole))
+  room-spot = rw (root-is C P w h r (F .whole) .tall)
 
   chain-ok : room C w (root w) .needed ≤ freeCount w → chainSound C P w (freeHead w) [] (room C w (root w) .needed) ≡ true
   chain-ok l =
@@ -71,11 +73,11 @@ module _ (C P : ℕ) (w : List ℕ) (h r : ℕ) (ns : List ℕ) (F : Formed C P 
       let n = root w in
       let W = F .whole in
       let s : appendStart C w l ≡ endRow C w h r = start-ends C P w h r W in
-      rw (header-ok C P w h r ns F, F .capacity-is, F .pool-is, ne-eqb (root w) P (omega (arith, root-inside C P w h r ns F)), root-leaf C P w h r (F .high) W)
+      rw (formed-header C P w h r ns F, F .capacity-is, F .pool-is, ne-eqb (root w) P (omega (arith, formed-root C P w h r ns F .inside)), root-leaf C P w h r (F .high) W)
       (to-leaf C P w n k x l Open chain-ok
       ∙ ap (λ (z : ℕ). told w (appendAt C w n z (z + k) x (room C w n)) (verdict k z (height C w n) (room C w n .needed) (freeCount w))) s
       ∙ ap (λ (z : Room). told w (appendAt C w n (endRow C w h r) (endRow C w h r + k) x z) (verdict k (endRow C w h r) (height C w n) (z .needed) (freeCount w))) room-spot
-      ∙ ap (λ (z : ℕ). told w (made k x) (verdict k (endRow C w h r) z (spot C w h .needed) (freeCount w))) (root-height C P w h r W)
+      ∙ ap (λ (z : ℕ). told w (made k x) (verdict k (endRow C w h r) z (spot C w h .needed) (freeCount w))) (root-is C P w h r W .tall)
       ∙ ap (λ (z : ℕ). told w (made k x) (verdict k (endRow C w h r) h z (freeCount w))) (spot-needed W)
       ∙ ap (λ (z : ℕ). told w (made k x) (verdict k (endRow C w h r) h (wanted C w h) z)) (F .free))
 

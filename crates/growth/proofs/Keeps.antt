@@ -18,11 +18,12 @@ use Rattle.model.proofs.Once.{own}
 use Rattle.model.proofs.Writes.{occ-cons, not-first, not-rest, chain-same}
 use Rattle.formed.specs.Well.{Well}
 use Rattle.formed.specs.Formed.{Blank, Whole, blank, held, treeOf, Formed}
+use Rattle.formed.proofs.Clean.{well-sound}
 use Rattle.growth.specs.Needed.{needed}
 use Rattle.growth.specs.Inserted.{Appended}
 use Rattle.growth.proofs.Shape.{Inside, Distinct, stalk, endAt, up, hung, Tip, parted, rightAt}
 use Rattle.growth.proofs.Last.{few-pairs, right-in}
-use Rattle.growth.proofs.Hung.{well-sound, hung-well, hung-entries, hung-nodes, entries-any, stalk-well, stalk-entries, stalk-nodes}
+use Rattle.growth.proofs.Hung.{hung-well, hung-entries, hung-nodes, entries-any, stalk-well, stalk-entries, stalk-nodes}
 use Rattle.growth.proofs.Parted.{parted-well, parted-entries, parted-nodes}
 use Rattle.growth.proofs.Hang.{Hangs, hang-word, hang-header, hang-hangs, hang-path, hang-level, occ-absent}
 use Rattle.growth.proofs.Split.{split-word, split-header, split-path, split-splits, split-level}

@@ -33,24 +33,11 @@ module _ {K : Type 0} where
   at-snoc R (a ∷ []) k p = p
   at-snoc R (a ∷ b ∷ ks) k p = at-snoc R (b ∷ ks) k p
 
-  -- what each pair has, by any limits
-  all-map : (Q : K → ℕ → Limit → Type 0) (R : K → Type 0) → ((x : K) (r : ℕ) (b : Limit) → Q x r b → R x) → (ks : List (ℕ × K)) (b c : Limit) → allPairs Q ks b → allPairs (λ (x : K) r₂ b₂. R x) ks c
-  unfolding allPairs
-  all-map Q R f [] b c a = tt
-  all-map Q R f (k ∷ ks) b c a = (f (k .1) (k .0) (next ks b) (a .0), all-map Q R f ks b c (a .1))
-
   -- what the last pair has, by the limit of the list
   pub all-last : (Q : K → ℕ → Limit → Type 0) (ks : List (ℕ × K)) (k : ℕ × K) (b : Limit) → allPairs Q (ks ++ (k ∷ [])) b → Q (k .1) (k .0) b
   unfolding allPairs next
   all-last Q [] k b a = a .0
   all-last Q (x ∷ ks) k b a = all-last Q ks k b (a .1)
-
--- a sound tree is narrow
-pub sound-narrow : (C P h : ℕ) (t : Level h) (r : ℕ) (b : Limit) → AllSound C P h t r b → Narrow C h t
-unfolding AllSound Narrow
-sound-narrow C P zero t r b g = tt
-sound-narrow C P (suc h) t r b g =
-    (soundly C h t r b (g .1) .many, all-map (AllSound C P h) (Narrow C h) (sound-narrow C P h) (t .pairs) (last h (t .end) b) Open (g .2))
 
 pub last-apart : {K : Type 0} (C : ℕ) (w : List ℕ) (f : ℕ → K) (n k : ℕ) → 0 < k → pairsFrom C w f n 0 k ≡ pairsFrom C w f n 0 (k - 1) ++ ((row C w n (k - 1), f (child C w n (k - 1))) ∷ [])
 last-apart C w f n k p =

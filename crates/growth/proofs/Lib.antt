@@ -8,7 +8,6 @@ pub mod Hang
 pub mod Split
 pub mod Taken
 pub mod Edge
-pub mod Few
 pub mod Ends
 pub mod Keeps
 pub mod Opened

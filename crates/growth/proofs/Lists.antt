@@ -22,11 +22,6 @@ or-r true b t = tt
 or-r false b t = t
 
 module _ {K : Type 0} where
-  pub all-weaken : (Q R : K → ℕ → Limit → Type 0) → ((x : K) (r : ℕ) (b : Limit) → Q x r b → R x r b) → (ks : List (ℕ × K)) (b : Limit) → allPairs Q ks b → allPairs R ks b
-  unfolding allPairs
-  all-weaken Q R f [] b a = tt
-  all-weaken Q R f (k ∷ ks) b a = (f (k .1) (k .0) (next ks b) (a .0), all-weaken Q R f ks b (a .1))
-
   pub all-snoc : (Q : K → ℕ → Limit → Type 0) (s : ℕ) (y : K) (b : Limit) → Q y s b → (ks : List (ℕ × K)) → allPairs Q ks (Below s) → allPairs Q (ks ++ ((s, y) ∷ [])) b
   unfolding allPairs next
   all-snoc Q s y b q [] a = (q, tt)

@@ -1,4 +1,4 @@
--- A well-formed store is open, its header is accepted, and its right edge has no fault.
+-- The right edge of a well-formed store has no fault.
 use Prim.Native.Nat.{ℕ, zero, suc, _+_, _<_, _≤_}
 use mathlib.Core.List.{List, []}
 use mathlib.Core.Bool.{true}
@@ -17,49 +17,10 @@ use Rattle.model.proofs.Sound.{sound-at}
 use Rattle.model.proofs.Once.{own, some-pairs}
 use Rattle.model.proofs.Lookup.{not-empty, is-empty}
 use Rattle.formed.specs.Formed.{Blank, Whole, blank, held, treeOf, Formed}
+use Rattle.formed.proofs.Clean.{well-sound}
+use Rattle.formed.proofs.Bridge.{blank-empty}
 use Rattle.growth.proofs.Shape.{rightAt}
 use Rattle.growth.proofs.Last.{few-pairs, last-sound}
-use Rattle.growth.proofs.Hung.{well-sound}
-use Rattle.growth.proofs.Taken.{chain-low}
-use Rattle.growth.proofs.Few.{few}
-use Rattle.growth.proofs.Ends.{blank-count}
-use Rattle.growth.proofs.Keeps.{at-most}
-
-module _ (C P : ℕ) (w : List ℕ) (h r : ℕ) where
-  whole-root : Whole C P h (treeOf C w h) r → root w < P
-  unfolding level
-  whole-root (blank b) = b .inside
-  whole-root (held g) = few-pairs C P w h (root w) r Open (well-sound C P (suc h) (treeOf C w h) r Open g) .1
-
-  blank-empty : Blank P h (treeOf C w h) r → EmptyRoot C w (root w)
-  unfolding level
-  blank-empty b = record { leaf = b .high; none = blank-count C P w h r b; low = omega (arith, b .begin, b .low); ends = b .ends }
-
-  module _ (ns : List ℕ) (F : Formed C P w h r ns) where
-    pub root-inside : root w < P
-    root-inside = whole-root (F .whole)
-
-    pub free-few : length ns ≤ P
-    free-few =
-        few P ns (λ m p. by-test (ltb m P) (λ t. ltb-true m P t) (λ t. absurd (omega (arith, rw t at (F .cover m)))))
-        (λ m. omega (arith, F .cover m, at-most (ltb m P)))
-
-    pub header-ok : headerOk w ≡ true
-    unfolding headerOk
-    header-ok =
-        let hd = F .header in
-        rw (
-          F .capacity-is,
-          F .pool-is,
-          le-leb 2 C (hd .cap-low),
-          le-leb C 4094 (hd .cap-high),
-          le-leb 1 P (hd .pool-low),
-          le-leb P 65535 (hd .pool-high),
-          eq-eqb (length w) (storeLength C P) (hd .long),
-          le-leb (root w) P (omega (arith, root-inside)),
-          le-leb (freeHead w) P (chain-low C P w (freeHead w) ns (F .chain)),
-          le-leb (freeCount w) P (omega (arith, F .free, free-few)),
-        )
 
 module _ (C P : ℕ) (w : List ℕ) where
   -- a sound node is passed
@@ -78,11 +39,6 @@ module _ (C P : ℕ) (w : List ℕ) where
       ∙ rw (le-ltb (i + 1) (count C w n) (omega (arith, some-pairs C P w (suc h) n r b g))) (right-leaf h n (child C w n i) (row C w n i) b (last-sound C P w (suc h) n r b g))
 
 module _ (C P : ℕ) (w : List ℕ) (h r : ℕ) where
-  pub root-height : Whole C P h (treeOf C w h) r → height C w (root w) ≡ h
-  unfolding level
-  root-height (held g) = own C P w h (root w) r Open (well-sound C P (suc h) (treeOf C w h) r Open g) .0
-  root-height (blank b) = b .high ∙ sym (b .leaf)
-
   -- the law
   pub root-leaf : h ≤ maxHeight → Whole C P h (treeOf C w h) r → rootLeaf (toRight C w) C P w (root w) ≡ leaf (rightAt C w h (root w)) Open
   unfolding rootLeaf rightAt

@@ -16,6 +16,7 @@ use Rattle.model.specs.Append.{firsts, past, chainSound, taken}
 use Rattle.model.proofs.Words.{set-part, header-at}
 use Rattle.model.proofs.Frame.{occ-append, occ-self}
 use Rattle.model.proofs.Writes.{pairs-same, occ-cons}
+use Rattle.formed.proofs.Chains.{chain-low}
 use Rattle.growth.proofs.Shape.{Inside, Distinct}
 
 module _ (C : ℕ) (w v : List ℕ) (k : ℕ) where
@@ -65,19 +66,13 @@ module _ (C P : ℕ) (w : List ℕ) where
       let t = chain-taken (count C w n) k ms (omega arith) (rw (c .0) (c .3)) in
       record { rest = t .rest; whole = ap (λ (l : List ℕ). m ∷ l) (t .whole) ∙ ap (λ (a : ℕ). a ∷ (firsts C w (count C w n) k ++ t .rest)) (sym (c .0)); chain = t .chain; inside = (rw (c .0) (c .1), t .inside); many = ap suc (t .many) }
 
-  -- the chain's first number
-  pub chain-low : (n : ℕ) (ns : List ℕ) → Chain C P w n ns → n ≤ P
-  unfolding Chain
-  chain-low n [] c = omega arith
-  chain-low n (m ∷ ms) c = omega arith
-
   -- the chain of a well-formed store passes the test of its first k nodes
   pub chain-passes : (k n : ℕ) (seen ns : List ℕ) → k ≤ length ns → Chain C P w n ns → ((m : ℕ) → occ m seen + occ m ns ≤ 1) → chainSound C P w n seen k ≡ true
   unfolding chainSound Chain
   chain-passes zero n seen ns l c d = refl
   chain-passes (suc k) n seen [] l c d = absurd (omega arith)
   chain-passes (suc k) n seen (m ∷ ms) l c d =
-      rw (c .0, lt-ltb m P (c .1), eq-eqb (height C w m) freeMark (c .2), le-leb (count C w m) P (chain-low (count C w m) ms (c .3)), eq-eqb (occ m seen) 0 (omega (arith, d m, occ-cons m m ms, occ-self m)))
+      rw (c .0, lt-ltb m P (c .1), eq-eqb (height C w m) freeMark (c .2), le-leb (count C w m) P (chain-low C P w (count C w m) ms (c .3)), eq-eqb (occ m seen) 0 (omega (arith, d m, occ-cons m m ms, occ-self m)))
       (chain-passes k (count C w m) (seen ++ (m ∷ [])) ms (omega arith) (c .3) (λ j. omega (arith, d j, occ-append j seen (m ∷ []), occ-cons j m ms)))
 
 -- each at most once

@@ -16,19 +16,9 @@ use Rattle.model.proofs.Tests.{by-test, and-l, and-r}
 use Rattle.model.proofs.Frame.{Same, Narrow, same-pairs, kept, occ-append, occ-self, occ-child, all-child}
 use Rattle.model.proofs.Sound.{soundly}
 use Rattle.formed.proofs.Pairs.{all-map}
-use Rattle.formed.proofs.Clean.{clean, clean-append, clean-all, reads}
+use Rattle.formed.proofs.Clean.{sound-narrow, clean, clean-append, clean-all, reads}
 use Rattle.formed.proofs.Tally.{left as lefts, left-append as lefts-append, left-pairs, left-nodes}
 use Rattle.walk.specs.Left.{bound, rest, Valid, lowest, left, ValidPath}
-
-any-next : {K : Type 0} (Q : K → ℕ → Limit → Type 0) (R : K → Type 0) → ((x : K) (r : ℕ) (b : Limit) → Q x r b → R x) → (ps : List (ℕ × K)) (b c : Limit) → allPairs Q ps b → allPairs (λ x r d. R x) ps c
-unfolding allPairs
-any-next Q R f [] b c a = tt
-any-next Q R f (p ∷ ps) b c a = (f (p .1) (p .0) (next ps b) (a .0), any-next Q R f ps b c (a .1))
-
-pub sound-narrow : (C P h : ℕ) (t : Level h) (r : ℕ) (b : Limit) → AllSound C P h t r b → Narrow C h t
-unfolding AllSound Narrow
-sound-narrow C P zero t r b g = tt
-sound-narrow C P (suc h) t r b g = (soundly C h t r b (g .1) .many, any-next (AllSound C P h) (Narrow C h) (sound-narrow C P h) (t .pairs) (last h (t .end) b) Open (g .2))
 
 module _ (C P : ℕ) (w v : List ℕ) where
   -- the nodes that are left have the same words in w and in v
