@@ -13,6 +13,7 @@ use Rattle.model.specs.Reading.{Visit, Enter, Leave, Bad, passes, visits, Entry
 use Rattle.model.specs.Prune.{Scan, stopped, on, entryEnd, against, scanLeaf, spoilt, scan}
 use Rattle.model.proofs.Tests.{by-test, is-true}
 use Rattle.model.proofs.Once.{own}
+use Rattle.formed.proofs.Linked.{Run, none, more}
 use Rattle.cut.specs.Cutting.{dropTo, Lands}
 
 abbrev pub endOf : Limit → ℕ
@@ -86,11 +87,6 @@ module _ (C P : ℕ) (w : List ℕ) (e : ℕ) where
       ∙ pairs-run (suc h) n n (λ x r₂ b₂ s₂ q. scan-sound h n x r₂ b₂ s₂ q) 0 (count C w n) b s (g .2))
 
 -- What the check says of the entries ---------------------------------------------------------------
--- entries that follow each other from row r to row z
-pub data Run : ℕ → List Entry → ℕ → Type 0 where
-  none : (r : ℕ) → Run r [] r
-  more : (r x z page : ℕ) (es : List Entry) → r < x → Run x es z → Run r (record { low = r; high = Below x; page = page } ∷ es) z
-
 pub run-stopped : (e : ℕ) (es : List Entry) (a d : ℕ) → run e es (stopped a d) ≡ stopped a d
 unfolding run against
 run-stopped e [] a d = refl

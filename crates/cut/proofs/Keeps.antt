@@ -21,6 +21,7 @@ use Rattle.formed.specs.Well.{Well}
 use Rattle.formed.specs.Formed.{Whole, blank, held, treeOf, Formed}
 use Rattle.formed.proofs.Clean.{well-sound}
 use Rattle.formed.proofs.Bridge.{formed-root}
+use Rattle.formed.proofs.Linked.{Linked, sound-linked}
 use Rattle.formed.proofs.Opens.{formed-sum}
 use Rattle.cut.specs.Cutting.{Tree, treeEntries, treeNodes, goneNodes, collapse, copiedNodes}
 use Rattle.cut.specs.Pruned.{collapsedLevels, Pruned, Accepts}
@@ -30,7 +31,6 @@ use Rattle.cut.proofs.Collapse.{collapse-levels}
 use Rattle.cut.proofs.CutTree.{occ-reverse, length-reverse, root-rest, gone-entries, gone-nodes, cut-well, cut-entries, cut-occ, cut-count}
 use Rattle.cut.proofs.PruneTree.{Left, emptyTree, empty-nodes, prune-reset, prune-tree}
 use Rattle.cut.proofs.Check.{run, Used, used-run, no-way}
-use Rattle.cut.proofs.Linked.{Linked, sound-linked}
 use Rattle.cut.proofs.Copies.{CopiesLaw, copies-sound}
 
 pub or-false : (a b : Bool) → (a || b) ≡ false → (a ≡ false) × (b ≡ false)
@@ -125,18 +125,17 @@ module _ (C P : ℕ) (w : List ℕ) (h r : ℕ) (ns : List ℕ) (formed : Formed
     linked = sound-linked C P h before r Open (well-sound C P (suc h) before r Open well)
 
     last-end : ℕ
-    unfolding Linked
-    last-end = linked .0
+    last-end = linked .end
 
     used : Used e r last-end 0 k ids all
-    unfolding Linked last-end
+    unfolding last-end
     used =
-        used-run e r (linked .0) all (linked .1) ids 0 k
+        used-run e r (linked .end) all (linked .run) ids 0 k
         (sym (fresh e r 0 all (sound-starts C P (suc h) before r Open (well-sound C P (suc h) before r Open well)) ids some) ∙ all-used e (run e all (on ids 0 0)) ids₂ k c passes)
 
     low : e ≤ rowLimit
-    unfolding Linked last-end
-    low = omega (arith, used .high, linked .3)
+    unfolding last-end
+    low = omega (arith, used .high, linked .low)
 
     k-is : k ≡ length ids
     k-is = omega (arith, used .number)

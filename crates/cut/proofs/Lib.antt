@@ -9,7 +9,6 @@ pub mod Copy
 pub mod Path
 pub mod PruneTree
 pub mod Check
-pub mod Linked
 pub mod Copies
 pub mod Call
 pub mod Keeps

@@ -18,10 +18,10 @@ use Rattle.formed.specs.Well.{Well}
 use Rattle.formed.specs.Formed.{Blank, Whole, blank, held, treeOf, Formed}
 use Rattle.formed.specs.Holds.{entriesFrom}
 use Rattle.formed.proofs.Clean.{well-sound}
+use Rattle.formed.proofs.Linked.{sound-linked}
 use Rattle.cut.specs.Pruned.{Pruned, Accepts, Follows}
 use Rattle.cut.proofs.Stay.{sound-starts}
 use Rattle.cut.proofs.Check.{run}
-use Rattle.cut.proofs.Linked.{Linked, sound-linked}
 use Rattle.cut.proofs.Call.{asked-blank, asked-held}
 use Rattle.cut.proofs.Keeps.{or-false, fresh, accepted}
 use Rattle.cut.proofs.Told.{Told, told, past-all, no-entries, ledger-numbers, run-ranges}
@@ -97,9 +97,8 @@ module _ (C P : ℕ) (w : List ℕ) (h : ℕ) (ns : List ℕ) (l : Ledger) (form
 
 -- every well-formed store holds a ledger
 whole-ranges : (C P h : ℕ) (t : Level (suc h)) (r : ℕ) → Whole C P h t r → (gs : List Range) × (entries (suc h) t r Open ≡ entriesFrom r gs)
-unfolding Linked
 whole-ranges C P h t r (blank b) = ([], blank-entries P h t r b ∙ sym (no-entries r))
-whole-ranges C P h t r (held g) = let k = sound-linked C P h t r Open (well-sound C P (suc h) t r Open g) in run-ranges r (entries (suc h) t r Open) (k .0) (k .1)
+whole-ranges C P h t r (held g) = let k = sound-linked C P h t r Open (well-sound C P (suc h) t r Open g) in run-ranges r (entries (suc h) t r Open) (k .end) (k .run)
 
 module _ (C P : ℕ) (w : List ℕ) (h r : ℕ) (ns : List ℕ) (formed : Formed C P w h r ns) where
   pub formed-ranges : (gs : List Range) × (entries (suc h) (treeOf C w h) r Open ≡ entriesFrom r gs)

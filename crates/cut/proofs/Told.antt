@@ -15,7 +15,8 @@ use Rattle.model.specs.Prune.{Scan, stopped, on, against, ranOut}
 use Rattle.model.specs.Ledger.{Range, Ledger, Cut, refuses, leaves, cutFrom, ledgerCut}
 use Rattle.model.proofs.Tests.{by-test}
 use Rattle.formed.specs.Holds.{entriesFrom}
-use Rattle.cut.proofs.Check.{run, Run, none, more, run-stopped, run-used}
+use Rattle.formed.proofs.Linked.{Run, none, more}
+use Rattle.cut.proofs.Check.{run, run-stopped, run-used}
 
 -- what the check says, where the ledger's cut is known
 unfoldable pub Told : ℕ → ℕ → ℕ → List ℕ → List Range → Cut → Scan → Type 0
