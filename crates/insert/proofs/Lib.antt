@@ -1,0 +1,4 @@
+pub mod RightEdge
+pub mod NewPaths
+pub mod Writing
+pub mod FromHeader

@@ -1,0 +1,146 @@
+-- An append after its path: the tests that are left, and the writes.
+use Prim.Native.Nat.{ℕ, zero, suc, _+_, _-_, _<_, _≤_}
+use mathlib.Core.List.{List, [], _∷_, _++_}
+use mathlib.Core.Bool.{Bool, true, false, _&&_, _||_, false≢true}
+use mathlib.Core.Path.{_≡_, refl, sym, ap, _∙_, subst}
+use mathlib.Core.Logic.{_≢_}
+use native.Mathlib.Omega.{arith}
+use lib.ListN.{set}
+use lib.Dec.{leb, ltb, eqb}
+use borrow.Author.Tests.{lt-ltb, le-ltb, eq-eqb, ne-eqb, ltb-true, ltb-false, eqb-true, eqb-false}
+use Rattle.model.specs.Words.{pick, part, height, count, freeHead, freeCount, freeMark, rowLimit, maxHeight}
+use Rattle.model.specs.Tree.{Limit}
+use Rattle.model.specs.Reading.{occ, leaf}
+use Rattle.model.specs.Refusals.{Answer, result, refused, damaged, Outcome, refusal}
+use Rattle.model.specs.Append.{Room, appendStart, room, firsts, past, chainSound, taken, hang, splitRoot, appendAt, appendTo}
+use Rattle.model.specs.declared.id.NodeNo.{NodeNo}
+use Rattle.model.specs.declared.answer.Refusal.{Refusal}
+use Rattle.model.specs.declared.answer.Refusal.the-variants.{RowLimit, HeightLimit, NoRoom}
+use Rattle.model.proofs.Tests.{and-l, and-r, by-test, holds, is-true}
+use Rattle.pool.specs.Write.{listed}
+use Rattle.pool.proofs.Links.{link}
+use Rattle.insert.specs.declared.limits.Ruling.{Ruling}
+use Rattle.insert.specs.declared.limits.Ruling.the-variants.{Fine, Refused}
+use Rattle.insert.specs.Room.{Inside, numberAt}
+use Rattle.insert.specs.Placed.{checked, placed}
+
+never : {A : Type 0} (r : Refusal) → Refused r ≡ Fine → A
+never r e = let z : _≡_ {A = ℕ} 0 1 = cc in absurd (omega arith)
+
+-- a refusal leaves the words w
+abbrev ruled : List ℕ → Outcome → Ruling → Outcome
+ruled w o Fine = o
+ruled w o (Refused r) = record { answer = refusal r; words = w }
+
+-- The tests ----------------------------------------------------------------------------------------------
+
+module _ (k s h m free : ℕ) where
+  pub no-rows : k ≡ 0 → checked k s h m free ≡ Refused RowLimit
+  unfolding checked
+  no-rows z = rw (eq-eqb k 0 z)
+
+  module _ (a : k ≡ 0 → ⊥) where
+    pub past-limit : rowLimit < s + k → checked k s h m free ≡ Refused RowLimit
+    unfolding checked
+    past-limit b = rw (ne-eqb k 0 a, lt-ltb rowLimit (s + k) b)
+
+    module _ (b : s + k ≤ rowLimit) where
+      pub too-high : h < m → h ≡ maxHeight → checked k s h m free ≡ Refused HeightLimit
+      unfolding checked
+      too-high c d = rw (ne-eqb k 0 a, le-ltb rowLimit (s + k) b, lt-ltb h m c, eq-eqb h maxHeight d)
+
+      pub too-few : (ltb h m && eqb h maxHeight) ≡ false → free < m → checked k s h m free ≡ Refused (NoRoom m)
+      unfolding checked
+      too-few c d = rw (ne-eqb k 0 a, le-ltb rowLimit (s + k) b, c, lt-ltb free m d)
+
+      pub all-fine : (ltb h m && eqb h maxHeight) ≡ false → m ≤ free → checked k s h m free ≡ Fine
+      unfolding checked
+      all-fine c d = rw (ne-eqb k 0 a, le-ltb rowLimit (s + k) b, c, le-ltb free m d)
+
+  pub record Passes : Type 0 where
+    pub most : s + k ≤ rowLimit
+    pub low : h < m → h ≢ maxHeight
+    pub enough : m ≤ free
+
+  pub passes : checked k s h m free ≡ Fine → Passes
+  unfolding checked
+  passes e =
+      by-test (eqb k 0 || ltb rowLimit (s + k))
+      (λ t. never RowLimit (rw t at e))
+      (λ t. by-test (ltb h m && eqb h maxHeight)
+      (λ u. never HeightLimit (rw (t, u) at e))
+      (λ u. by-test (ltb free m)
+      (λ v. never (NoRoom m) (rw (t, u, v) at e))
+      (λ v. record {
+        most = by-test (ltb rowLimit (s + k)) (λ x. absurd (not-or t x)) (λ x. ltb-false rowLimit (s + k) x);
+        low = λ l z. absurd (not-and (lt-ltb h m l) (eq-eqb h maxHeight z) u);
+        enough = ltb-false free m v;
+      })))
+    where
+      not-or : (eqb k 0 || ltb rowLimit (s + k)) ≡ false → ltb rowLimit (s + k) ≡ true → ⊥
+      not-or t x = by-test (eqb k 0) (λ y. let z : true ≡ false = rw y at t in false≢true (sym z)) (λ y. let z : true ≡ false = rw (y, x) at t in false≢true (sym z))
+
+      not-and : ltb h m ≡ true → eqb h maxHeight ≡ true → (ltb h m && eqb h maxHeight) ≡ false → ⊥
+      not-and l z u = let y : true ≡ false = rw (l, z) at u in false≢true (sym y)
+
+pub not-highest : (h m : ℕ) → h < m → (h ≡ maxHeight → ⊥) → (ltb h m && eqb h maxHeight) ≡ false
+not-highest h m a b = rw (lt-ltb h m a, ne-eqb h maxHeight b)
+
+pub no-split : (h m : ℕ) → m ≤ h → (ltb h m && eqb h maxHeight) ≡ false
+no-split h m a = rw (le-ltb h m a)
+
+module _ (C P : ℕ) (w : List ℕ) (n k x l : ℕ) (b : Limit) where
+  append-ruled : appendTo C P w n k x (leaf l b) ≡ ruled w (placed C P w n (appendStart C w l) (appendStart C w l + k) x (room C w n)) (checked k (appendStart C w l) (height C w n) (room C w n .needed) (freeCount w))
+  unfolding appendTo checked placed
+  append-ruled =
+      by-test (eqb k 0 || ltb rowLimit (appendStart C w l + k))
+      (λ t. rw t)
+      (λ t. by-test (ltb (height C w n) (room C w n .needed) && eqb (height C w n) maxHeight)
+      (λ u. rw (t, u))
+      (λ u. by-test (ltb (freeCount w) (room C w n .needed)) (λ v. rw (t, u, v)) (λ v. rw (t, u, v))))
+
+  -- by what the code has found
+  module _ (s h free : ℕ) (o : Room) (is-start : s ≡ appendStart C w l) (is-height : h ≡ height C w n) (is-free : free ≡ freeCount w) (is-room : o ≡ room C w n) where
+    append-by : appendTo C P w n k x (leaf l b) ≡ ruled w (placed C P w n s (s + k) x o) (checked k s h (o .needed) free)
+    append-by = append-ruled ∙ rw (is-start, is-height, is-free, is-room)
+
+    pub append-refused : (r : Refusal) → checked k s h (o .needed) free ≡ Refused r → appendTo C P w n k x (leaf l b) ≡ record { answer = refusal r; words = w }
+    append-refused r e = append-by ∙ rw e
+
+    pub append-fine : checked k s h (o .needed) free ≡ Fine → appendTo C P w n k x (leaf l b) ≡ placed C P w n s (s + k) x o
+    append-fine e = append-by ∙ rw e
+
+-- The writes ---------------------------------------------------------------------------------------------
+
+module _ (C P : ℕ) (w : List ℕ) (n s e x : ℕ) (o : Room) where
+  pub placed-bad : chainSound C P w (freeHead w) [] (o .needed) ≡ false → placed C P w n s e x o ≡ record { answer = damaged; words = w }
+  unfolding placed
+  placed-bad t = rw t
+
+  pub placed-good : chainSound C P w (freeHead w) [] (o .needed) ≡ true → (l : List NodeNo) (a : ℕ) → listed l 0 (o .needed) ≡ firsts C w (freeHead w) (o .needed) → a ≡ past C w (freeHead w) (o .needed)
+      → placed C P w n s e x o
+      ≡ record { answer = result (s ∷ e ∷ o .needed ∷ []); words = set (set (pick (leb (o .needed) (height C w n)) (hang C w (o .node) s e x (listed l 0 (o .needed))) (splitRoot C w n s e x (listed l 0 (o .needed)))) 3 a) 4 (freeCount w - o .needed) }
+  unfolding placed appendAt taken
+  placed-good t l a f p = rw (t, f, p)
+
+-- The nodes wanted ---------------------------------------------------------------------------------------
+
+module _ (C P : ℕ) (w : List ℕ) where
+  firsts-inside : (a : ℕ) (seen : List ℕ) (k : ℕ) → chainSound C P w a seen k ≡ true → Inside P (firsts C w a k)
+  unfolding chainSound firsts Inside
+  firsts-inside a seen zero t = tt
+  firsts-inside a seen (suc k) t =
+      let h = holds (chainSound C P w a seen (suc k)) t in
+      (link C P w a seen k t .inside, firsts-inside (count C w a) (seen ++ (a ∷ [])) k (is-true _ (search (and-l, and-r) depth 8)))
+
+  module _ (l : List NodeNo) (a : ℕ) where
+    pub listed-inside : (k : ℕ) → chainSound C P w a [] k ≡ true → listed l 0 k ≡ firsts C w a k → Inside P (listed l 0 k)
+    listed-inside k t f = subst (Inside P) (sym f) (firsts-inside a [] k t)
+
+    -- the first of them is free, so it is no node of the tree
+    pub head-apart : (k n : ℕ) → chainSound C P w a [] k ≡ true → listed l 0 k ≡ firsts C w a k → 0 < k → height C w n ≤ maxHeight → n ≢ numberAt l 0
+    unfolding listed firsts
+    head-apart zero n t f p h e = absurd (omega arith)
+    head-apart (suc k) n t f p h e =
+        let z : numberAt l 0 ≡ a = cc in
+        omega (arith, link C P w a [] k t .marked, ap (height C w) (e ∙ z))

@@ -1,0 +1,64 @@
+use borrow.Author.Needs.{needs}
+use mathlib.Core.Path.{_≡_, refl, sym, ap, _∙_}
+use native.Mathlib.Omega.{arith}
+use borrow.Author.Tests.{not-true, not-false}
+use Rattle.model.specs.Refusals.{Outcome}
+use Rattle.insert.specs.Room.{roomOf}
+use Rattle.insert.proofs.Writing.{placed-bad, placed-good, listed-inside, head-apart}
+use Rattle.insert.proofs.place_page.Statement.{statement}
+use Rattle.insert.proofs.place_page.Tie as tie
+
+read-chain-requires : tie.Need-read-chain-requires
+read-chain-requires c κs = search needs
+
+same-length : tie.Need-same-length
+same-length c = search needs
+
+returns : tie.Need-returns
+returns c =
+    let a = c .before .before .before .before .before .args in
+    let p = c .before .before .before .before .before .pre in
+    let t = rw (p .1 .0 .1) at (sym (c .before .read-chain .ensures .0) ∙ not-true _ (c .if1 .taken)) in
+    let q = placed-bad (a .h .layout .capacity) (a .h .layout .pool) (a .s .now) (a .h .root .0) (a .new .start .0) (a .new .end .0) (a .new .page .0) (roomOf (a .room)) t in
+    (sym (ap (λ (o : Outcome). o .answer) q), sym (ap (λ (o : Outcome). o .words) q))
+
+grow-tree-requires : tie.Need-grow-tree-requires
+grow-tree-requires c κs =
+    let a = c .before .before .before .before .before .before .before .args in
+    let p = c .before .before .before .before .before .before .before .pre in
+    let g = not-false _ (c .before .before .if1 .left) in
+    let t = sym (c .before .before .before .read-chain .ensures .0) ∙ g in
+    let f = c .before .before .before .read-chain .ensures .1 g .0 in
+    (p .0, ((p .1 .0 .0, p .1 .1), (listed-inside (a .h .layout .capacity) (a .h .layout .pool) (a .s .now) _ _ _ t f, λ z. head-apart (a .h .layout .capacity) (a .h .layout .pool) (a .s .now) _ _ _ (a .h .root .0) t f z (p .1 .1 .high))))
+
+sub-set-chain : tie.Need-sub-set-chain
+sub-set-chain c = search needs
+
+set-chain-requires : tie.Need-set-chain-requires
+set-chain-requires c κs = search needs
+
+same-length-2 : tie.Need-same-length-2
+same-length-2 c = search needs
+
+returns-2 : tie.Need-returns-2
+returns-2 c =
+    let a = c .before .before .before .before .before .before .before .before .before .before .before .before .before .before .before .before .before .before .args in
+    let p = c .before .before .before .before .before .before .before .before .before .before .before .before .before .before .before .before .before .before .pre in
+    let g = not-false _ (c .before .before .before .before .before .before .before .before .before .before .before .before .before .if1 .left) in
+    let t = rw (p .1 .0 .1) at (sym (c .before .before .before .before .before .before .before .before .before .before .before .before .before .before .read-chain .ensures .0) ∙ g) in
+    let f = rw (p .1 .0 .1) at (c .before .before .before .before .before .before .before .before .before .before .before .before .before .before .read-chain .ensures .1 g) in
+    let q = placed-good (a .h .layout .capacity) (a .h .layout .pool) (a .s .now) (a .h .root .0) (a .new .start .0) (a .new .end .0) (a .new .page .0) (roomOf (a .room)) t _ _ (f .0) (f .1) in
+    (sym (ap (λ (o : Outcome). o .answer) q), c .before .before .before .before .set-chain .ensures ∙ rw (c .before .before .before .before .before .before .before .before .before .before .grow-tree .ensures, p .1 .0 .2) (sym (ap (λ (o : Outcome). o .words) q)))
+
+pub place-page-spec : {M : Type 1} → statement M
+place-page-spec =
+    tie.close
+    (tie.spec
+    read-chain-requires
+    same-length
+    returns
+    grow-tree-requires
+    sub-set-chain
+    set-chain-requires
+    same-length-2
+    returns-2)

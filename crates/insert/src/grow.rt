@@ -1,0 +1,144 @@
+// What an append writes to nodes.
+
+ghost use mathlib.Core.Path.{_≡_};
+ghost use mathlib.Core.Logic.{_≢_};
+ghost use Prim.Native.Nat.{_+_, _-_, _≤_, _<_};
+ghost use lib.Dec.{leb};
+ghost use Rattle.model.specs.Words.{NONE, count, height, pick};
+ghost use Rattle.model.specs.Append.{fresh, hang, newPath, raised, splitRoot};
+ghost use Rattle.node.specs.Layout.{Fits};
+ghost use Rattle.pool.specs.Write.{listed};
+ghost use Rattle.insert.specs.Room.{Inside, Usable, numberAt, roomOf};
+use crate::room::Room;
+use model::id::NodeNo;
+use model::id::PageID;
+use model::id::RowID;
+use model::node::RowPageIndexNodeHeader;
+use node::layout::Layout;
+use pool::write;
+
+// A page, its first row and the row after its last.
+pub struct NewPage {
+    pub start: RowID,
+    pub end: RowID,
+    pub page: PageID,
+}
+
+// Node n becomes a branch of one entry; new branches end at NONE.
+fn fresh_branch(l: Layout, s: &mut [u64], n: NodeNo, height: u64, start: RowID, child: NodeNo)
+    requires { ⌜ Fits l (now s) ⌝ }
+    requires { ⌜ n .0 < l .pool ⌝ }
+    ensures { λ _. ⌜ now (s .exit) ≡ fresh (l .capacity) (now (s .entry)) (n .0) height (start .0) NONE (child .0) ⌝ }
+{
+    let header = RowPageIndexNodeHeader {
+        height,
+        count: 1,
+        start_row_id: start,
+        end_row_id: RowID(RowPageIndexNodeHeader::NONE),
+    };
+    write::put_header(l, s, n, header);
+    write::put_child(l, s, n, 0, start, child);
+}
+
+// Node n becomes a leaf of one entry.
+fn fresh_leaf(l: Layout, s: &mut [u64], n: NodeNo, new: NewPage)
+    requires { ⌜ Fits l (now s) ⌝ }
+    requires { ⌜ n .0 < l .pool ⌝ }
+    ensures { λ _. ⌜ now (s .exit) ≡ fresh (l .capacity) (now (s .entry)) (n .0) 0 (new .start .0) (new .end .0) (new .page .0) ⌝ }
+{
+    let start = new.start;
+    let end = new.end;
+    let header = RowPageIndexNodeHeader {
+        height: 0,
+        count: 1,
+        start_row_id: start,
+        end_row_id: end,
+    };
+    write::put_header(l, s, n, header);
+    write::put_page(l, s, n, 0, start, new.page);
+}
+
+// A path of one-entry nodes over the page: k of the nodes, from place at on, the top first.
+fn new_path(l: Layout, s: &mut [u64], new: NewPage, nodes: [NodeNo; 32], at: usize, k: usize)
+    requires { ⌜ Fits l (now s) ⌝ }
+    requires { ⌜ (1 ≤ k) × (at + k ≤ 32) × Inside (l .pool) (listed nodes at k) ⌝ }
+    ensures { λ _. ⌜ now (s .exit) ≡ newPath (l .capacity) (now (s .entry)) (new .start .0) (new .end .0) (new .page .0) (listed nodes at k) ⌝ }
+{
+    let leaf = at + k - 1;
+    let mut i = at;
+    while i < leaf {
+        let n = nodes[i];
+        let below = nodes[i + 1];
+        fresh_branch(l, s, n, (leaf - i) as u64, new.start, below);
+        i += 1;
+    }
+    let n = nodes[leaf];
+    fresh_leaf(l, s, n, new);
+}
+
+// One more entry in node n: the page, where n is the right leaf, or a path of k nodes over it.
+fn hang(l: Layout, s: &mut [u64], n: NodeNo, new: NewPage, nodes: [NodeNo; 32], k: usize)
+    requires { ⌜ Fits l (now s) ⌝ }
+    requires { ⌜ (n .0 < l .pool) × (count (l .capacity) (now s) (n .0) < l .capacity) × (k ≤ 32) × Inside (l .pool) (listed nodes 0 k) ⌝ }
+    ensures { λ _. ⌜ now (s .exit) ≡ hang (l .capacity) (now (s .entry)) (n .0) (new .start .0) (new .end .0) (new .page .0) (listed nodes 0 k) ⌝ }
+{
+    if k == 0 {
+        write::add_page(l, s, n, new.start, new.page);
+        write::put(l, s, n, 3, new.end.0);
+        return;
+    }
+    let top = nodes[0];
+    write::add_child(l, s, n, new.start, top);
+    new_path(l, s, new, nodes, 0, k);
+}
+
+// Root n gets two entries: its copy from its start on, and node top from row start on.
+fn raise(l: Layout, s: &mut [u64], n: NodeNo, copy: NodeNo, start: RowID, top: NodeNo)
+    requires { ⌜ Fits l (now s) ⌝ }
+    requires { ⌜ (n .0 < l .pool) × (height (l .capacity) (now s) (n .0) ≤ 31) ⌝ }
+    ensures { λ _. ⌜ now (s .exit) ≡ raised (l .capacity) (now (s .entry)) (n .0) (copy .0) (start .0) (top .0) ⌝ }
+{
+    let h = l.header(&s[..], n);
+    write::put(l, s, n, 0, h.height + 1);
+    write::put(l, s, n, 1, 2);
+    write::put(l, s, n, 3, RowPageIndexNodeHeader::NONE);
+    write::put_child(l, s, n, 0, h.start_row_id, copy);
+    write::put_child(l, s, n, 1, start, top);
+}
+
+// The root's copy, which ends where the page begins, and a path of the other nodes become the root's two entries.
+fn split_root(l: Layout, s: &mut [u64], n: NodeNo, new: NewPage, nodes: [NodeNo; 32], k: usize)
+    requires { ⌜ Fits l (now s) ⌝ }
+    requires { ⌜ (n .0 < l .pool) × (height (l .capacity) (now s) (n .0) ≤ 31) × (2 ≤ k) × (k ≤ 32) × Inside (l .pool) (listed nodes 0 k) × (n .0 ≢ numberAt nodes 0) ⌝ }
+    ensures { λ _. ⌜ now (s .exit) ≡ splitRoot (l .capacity) (now (s .entry)) (n .0) (new .start .0) (new .end .0) (new .page .0) (listed nodes 0 k) ⌝ }
+{
+    let copy = nodes[0];
+    let top = nodes[1];
+    write::copy_node(l, s, n, copy);
+    write::put(l, s, copy, 3, new.start.0);
+    raise(l, s, n, copy, new.start, top);
+    new_path(l, s, new, nodes, 1, k - 1);
+}
+
+// The page goes to the node with room; where none has room, the root splits.
+pub fn grow_tree(
+    l: Layout,
+    s: &mut [u64],
+    root: NodeNo,
+    room: Room,
+    new: NewPage,
+    nodes: [NodeNo; 32],
+)
+    requires { ⌜ Fits l (now s) ⌝ }
+    requires { ⌜ (root .0 < l .pool) × Usable (l .capacity) (l .pool) (now s) (root .0) (roomOf room) ⌝ }
+    requires { ⌜ Inside (l .pool) (listed nodes 0 (room .needed)) × (0 < room .needed → root .0 ≢ numberAt nodes 0) ⌝ }
+    ensures { λ _. ⌜ now (s .exit) ≡ pick (leb (room .needed) (height (l .capacity) (now (s .entry)) (root .0))) (hang (l .capacity) (now (s .entry)) (room .node .0) (new .start .0) (new .end .0) (new .page .0) (listed nodes 0 (room .needed))) (splitRoot (l .capacity) (now (s .entry)) (root .0) (new .start .0) (new .end .0) (new .page .0) (listed nodes 0 (room .needed))) ⌝ }
+{
+    let k = room.needed as usize;
+    let height = l.part(&s[..], root, 0);
+    if room.needed <= height {
+        hang(l, s, room.node, new, nodes, k);
+        return;
+    }
+    split_root(l, s, root, new, nodes, k);
+}

@@ -1,0 +1,95 @@
+// Append: a page of rows after the last one.
+
+ghost use mathlib.Core.Path.{_≡_};
+ghost use Prim.Native.Nat.{_+_, _<_};
+ghost use Rattle.model.specs.Words.{freeCount, freeHead};
+ghost use Rattle.model.specs.Tree.{Open};
+ghost use Rattle.model.specs.Reading.{leaf};
+ghost use Rattle.model.specs.Refusals.{inserted};
+ghost use Rattle.model.specs.Append.{appendTo, insertRowPage};
+ghost use Rattle.node.specs.Layout.{Fits};
+ghost use Rattle.insert.specs.Room.{Ready, Usable, roomOf};
+ghost use Rattle.insert.specs.Placed.{placed};
+use crate::grow::NewPage;
+use crate::limits::Ruling;
+use crate::room::Room;
+use descend::path;
+use descend::path::Reached;
+use descend::path::Toward;
+use model::answer::Inserted;
+use model::answer::Refusal;
+use model::answer::RowPageIndexInsert;
+use model::id::NodeNo;
+use model::id::PageID;
+use model::id::RowID;
+use node::header;
+use node::header::Opened;
+use node::header::StoreHeader;
+use pool::chain;
+
+pub mod grow;
+pub mod limits;
+pub mod room;
+
+// A new page goes where there is room, with nodes of the chain; they are read and tested before anything is written.
+fn place_page(s: &mut [u64], h: StoreHeader, new: NewPage, room: Room) -> Inserted
+    requires { ⌜ Fits (h .layout) (now s) ⌝ }
+    requires { ⌜ (h .root .0 < h .layout .pool) × (h .«free_head» .0 ≡ freeHead (now s)) × (h .«free_count» ≡ freeCount (now s)) ⌝ }
+    requires { ⌜ Usable (h .layout .capacity) (h .layout .pool) (now s) (h .root .0) (roomOf room) ⌝ }
+    ensures answer { λ r. ⌜ inserted r ≡ placed (h .layout .capacity) (h .layout .pool) (now (s .entry)) (h .root .0) (new .start .0) (new .end .0) (new .page .0) (roomOf room) .answer ⌝ }
+    ensures words { λ r. ⌜ now (s .exit) ≡ placed (h .layout .capacity) (h .layout .pool) (now (s .entry)) (h .root .0) (new .start .0) (new .end .0) (new .page .0) (roomOf room) .words ⌝ }
+{
+    let l = h.layout;
+    let wanted = chain::read_chain(l, &s[..], h.free_head, room.needed as usize);
+    let sound = wanted.sound;
+    if !sound {
+        return Inserted::Refused(Refusal::Unsound(NodeNo(NodeNo::HEADER)));
+    }
+    let nodes = wanted.nodes;
+    grow::grow_tree(l, s, h.root, room, new, nodes);
+    chain::set_chain(s, wanted.next, h.free_count - room.needed);
+    let start_row_id = new.start;
+    let end_row_id = new.end;
+    Inserted::Done(RowPageIndexInsert {
+        start_row_id,
+        end_row_id,
+        taken_nodes: room.needed,
+    })
+}
+
+// After the right leaf, which was reached: 4, 6 and 5, then the chain.
+fn insert_after(s: &mut [u64], h: StoreHeader, last: NodeNo, count: u64, page: PageID) -> Inserted
+    requires { ⌜ Fits (h .layout) (now s) ⌝ }
+    requires { ⌜ (h .root .0 < h .layout .pool) × (h .«free_head» .0 ≡ freeHead (now s)) × (h .«free_count» ≡ freeCount (now s)) ⌝ }
+    requires { ⌜ Ready (h .layout .capacity) (h .layout .pool) (now s) (h .root .0) (last .0) ⌝ }
+    ensures answer { λ r. ⌜ inserted r ≡ appendTo (h .layout .capacity) (h .layout .pool) (now (s .entry)) (h .root .0) count (page .0) (leaf (last .0) Open) .answer ⌝ }
+    ensures words { λ r. ⌜ now (s .exit) ≡ appendTo (h .layout .capacity) (h .layout .pool) (now (s .entry)) (h .root .0) count (page .0) (leaf (last .0) Open) .words ⌝ }
+{
+    let l = h.layout;
+    let start = room::range_start(l, &s[..], last);
+    let free = room::find_room(l, &s[..], h.root);
+    let height = l.part(&s[..], h.root, 0);
+    match limits::test_limits(start, count, height, free.needed, h.free_count) {
+        Ruling::Refused(r) => Inserted::Refused(r),
+        Ruling::Fine => {
+            let end = RowID(start.0 + count);
+            place_page(s, h, NewPage { start, end, page }, free)
+        }
+    }
+}
+
+// The page gets the next count rows.
+pub fn insert_row_page(s: &mut [u64], count: u64, page: PageID) -> Inserted
+    ensures answer { λ r. ⌜ inserted r ≡ insertRowPage (now (s .entry)) count (page .0) .answer ⌝ }
+    ensures words { λ r. ⌜ now (s .exit) ≡ insertRowPage (now (s .entry)) count (page .0) .words ⌝ }
+{
+    match header::open(&s[..]) {
+        Opened::Refused(r) => Inserted::Refused(r),
+        Opened::Open(h) => {
+            match path::find_leaf(h.layout, &s[..], h.root, Toward::Right) {
+                Reached::Unsound(n) => Inserted::Refused(Refusal::Unsound(n)),
+                Reached::Leaf(last, _) => insert_after(s, h, last, count, page),
+            }
+        }
+    }
+}
