@@ -1,0 +1,95 @@
+//! Times of the proved calls: `calls C N ROUNDS` prints `NAME NANOSECONDS` lines, the least of the rounds. The appends and
+//! the rows looked up are those that the bench of the Rust makes.
+
+use std::hint::black_box;
+use std::time::Instant;
+
+/// The functions of crates/bench_host. A slice is a pointer and then a length.
+mod rattle {
+    unsafe extern "C" {
+        fn bench_create(words: *mut u64, len: usize, capacity: u64, nodes: u64) -> u64;
+        fn bench_append(words: *mut u64, len: usize, count: u64, page: u64) -> u64;
+        fn bench_find(words: *const u64, len: usize, row: u64) -> u64;
+        fn bench_check(words: *const u64, len: usize) -> u64;
+    }
+
+    pub fn create(w: &mut [u64], capacity: u64, nodes: u64) -> u64 {
+        unsafe { bench_create(w.as_mut_ptr(), w.len(), capacity, nodes) }
+    }
+
+    pub fn append(w: &mut [u64], count: u64, page: u64) -> u64 {
+        unsafe { bench_append(w.as_mut_ptr(), w.len(), count, page) }
+    }
+
+    pub fn find(w: &[u64], row: u64) -> u64 {
+        unsafe { bench_find(w.as_ptr(), w.len(), row) }
+    }
+
+    pub fn check(w: &[u64]) -> u64 {
+        unsafe { bench_check(w.as_ptr(), w.len()) }
+    }
+}
+
+/// Only reading: the wrapping sum of the words of the nodes on the path to a row.
+fn read_path(w: &[u64], row: u64) -> u64 {
+    let c = w[0] as usize;
+    let (mut n, mut sum) = (w[2] as usize, 0u64);
+    loop {
+        let at = 8 + n * (4 + 2 * c);
+        let node = &w[at..at + 4 + 2 * c];
+        sum = node.iter().fold(sum, |a, b| a.wrapping_add(*b));
+        if node[0] == 0 {
+            return sum;
+        }
+        let pairs = node[4..4 + 2 * node[1] as usize].chunks_exact(2);
+        n = pairs.take_while(|p| p[0] <= row).last().map_or(0, |p| p[1] as usize);
+    }
+}
+
+fn main() {
+    let args: Vec<u64> = std::env::args().skip(1).map(|a| a.parse().unwrap()).collect();
+    let (c, n, rounds) = (args[0], args[1], args[2]);
+    let nodes = match c {
+        2 => 65_535,
+        _ => 2 * n / c + 64,
+    };
+    let mut best = [f64::MAX; 4];
+    let mut keep = |i: usize, t: Instant, ops: u64| best[i] = best[i].min(t.elapsed().as_nanos() as f64 / ops as f64);
+    let mut words = vec![0u64; (8 + nodes * (4 + 2 * c)) as usize];
+    let mut held = 0;
+    for _ in 0..rounds {
+        assert_eq!(rattle::create(&mut words, c, nodes), nodes);
+        let t = Instant::now();
+        for k in 0..n {
+            black_box(rattle::append(black_box(&mut words), 10, k + 1));
+        }
+        keep(0, t, n);
+        let mut x = 0x9E37_79B9_7F4A_7C15u64;
+        let mut random = || {
+            x ^= x << 13;
+            x ^= x >> 7;
+            x ^= x << 17;
+            (x as u128 * (10 * n) as u128 >> 64) as u64
+        };
+        let t = Instant::now();
+        for _ in 0..n {
+            let row = random();
+            assert!(rattle::find(black_box(&words), row) == row / 10 + 1);
+        }
+        keep(1, t, n);
+        let t = Instant::now();
+        for _ in 0..n / 10 {
+            black_box(read_path(black_box(&words), random()));
+        }
+        keep(2, t, n / 10);
+        let t = Instant::now();
+        held = black_box(rattle::check(black_box(&words)));
+        keep(3, t, held);
+        assert!(held <= nodes);
+    }
+    println!("nodes {held}");
+    println!("append {:.1}", best[0]);
+    println!("find {:.1}", best[1]);
+    println!("read {:.1}", best[2]);
+    println!("check {:.1}", best[3]);
+}

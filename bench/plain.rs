@@ -1,0 +1,143 @@
+//! What the proved functions are compared with: plain safe Rust that makes the same checks, and a sum.
+
+use crate::store::{MAX_HEIGHT, MAX_POOL, NONE, ROW_LIMIT};
+
+pub const REFUSED: u64 = u64::MAX;
+pub const UNSOUND: u64 = u64::MAX - 1;
+
+/// All the words, added up.
+#[inline(never)]
+pub fn sum(words: &[u64]) -> u64 {
+    words.iter().fold(0, |a, w| a.wrapping_add(*w))
+}
+
+#[derive(Clone, Copy)]
+struct Store<'a> {
+    words: &'a [u64],
+    capacity: usize,
+    pool: usize,
+    root: usize,
+}
+
+fn open(words: &[u64]) -> Option<Store<'_>> {
+    let &[capacity, pool, root, free_head, free_count, _, _, _, ..] = words else { return None };
+    let good = (2..=4094).contains(&capacity)
+        && (1..=MAX_POOL as u64).contains(&pool)
+        && words.len() as u64 == 8 + pool * (4 + 2 * capacity)
+        && root < pool
+        && free_head <= pool
+        && free_count <= pool;
+    good.then_some(Store { words, capacity: capacity as usize, pool: pool as usize, root: root as usize })
+}
+
+/// Whether the rows of the pairs rise strictly, above `before`. With FOUR, four rows a turn.
+fn rise<const FOUR: bool>(mut before: u64, pairs: &[u64]) -> bool {
+    let mut rest = pairs;
+    if FOUR {
+        let mut turns = pairs.chunks_exact(8);
+        for p in &mut turns {
+            if p[0] <= before || p[2] <= p[0] || p[4] <= p[2] || p[6] <= p[4] {
+                return false;
+            }
+            before = p[6];
+        }
+        rest = turns.remainder();
+    }
+    for p in rest.chunks_exact(2) {
+        if p[0] <= before {
+            return false;
+        }
+        before = p[0];
+    }
+    true
+}
+
+impl<'a> Store<'a> {
+    fn node(&self, n: usize) -> &'a [u64] {
+        let size = 4 + 2 * self.capacity;
+        &self.words[8 + n * size..][..size]
+    }
+
+    /// The node test: the first child number out of range, or the count.
+    fn test<const FOUR: bool>(&self, node: &[u64], height: u64, row: u64, next: Option<u64>) -> Option<usize> {
+        let count = node[1] as usize;
+        if node[0] != height || count < 1 || self.capacity < count || node[2] != row || node[4] != row {
+            return None;
+        }
+        let (end, pairs) = (node[3], &node[4..4 + 2 * count]);
+        let last = pairs[2 * count - 2];
+        let ends = if height == 0 {
+            last < end && end <= ROW_LIMIT && next.is_none_or(|r| end == r)
+        } else {
+            end == NONE || last < end
+        };
+        if !ends {
+            return None;
+        }
+        if !rise::<FOUR>(row, &pairs[2..]) {
+            return None;
+        }
+        if height == 0 {
+            return Some(count);
+        }
+        Some(pairs.chunks_exact(2).position(|pair| self.pool as u64 <= pair[1]).unwrap_or(count))
+    }
+
+    /// The node test, and with ends the test of a branch's end.
+    fn pass<const FOUR: bool>(&self, node: &[u64], ends: bool, height: u64, row: u64, next: Option<u64>) -> Option<usize> {
+        if ends && height != 0 && node[3] != NONE && next != Some(node[3]) {
+            return None;
+        }
+        self.test::<FOUR>(node, height, row, next)
+    }
+}
+
+/// As `bench_test_node`.
+pub fn test_node(words: &[u64], node: u64, height: u64, row: u64, next: Option<u64>) -> u64 {
+    match open(words) {
+        Some(s) if node < s.pool as u64 => s.test::<false>(s.node(node as usize), height, row, next).map_or(UNSOUND, |first| first as u64),
+        _ => REFUSED,
+    }
+}
+
+struct Frame<'a> {
+    node: &'a [u64],
+    index: usize,
+    first: usize,
+    next: Option<u64>,
+}
+
+/// As `bench_survey`: the nodes of a sound tree.
+#[inline(never)]
+pub fn survey<const FOUR: bool>(words: &[u64], ends: bool) -> u64 {
+    let Some(s) = open(words) else { return REFUSED };
+    let root = s.node(s.root);
+    if root[0] == 0 && root[1] == 0 && root[2] <= ROW_LIMIT && root[3] == NONE {
+        return 1;
+    }
+    if MAX_HEIGHT < root[0] {
+        return REFUSED;
+    }
+    let Some(first) = s.pass::<FOUR>(root, ends, root[0], root[2], None) else { return REFUSED };
+    let mut nodes = 1;
+    let mut stack = vec![Frame { node: root, index: 0, first, next: None }];
+    while let Some(top) = stack.last_mut() {
+        let (node, index) = (top.node, top.index);
+        let count = node[1] as usize;
+        if node[0] == 0 || count <= index {
+            stack.pop();
+            continue;
+        }
+        if top.first <= index {
+            return REFUSED;
+        }
+        top.index += 1;
+        let pairs = &node[4..4 + 2 * count];
+        let next = if index + 1 < count { Some(pairs[2 * index + 2]) } else { top.next };
+        let child = s.node(pairs[2 * index + 1] as usize);
+        let Some(first) = s.pass::<FOUR>(child, ends, node[0] - 1, pairs[2 * index], next) else { return REFUSED };
+        nodes += 1;
+        stack.push(Frame { node: child, index: 0, first, next });
+    }
+    nodes
+}

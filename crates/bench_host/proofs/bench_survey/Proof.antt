@@ -1,0 +1,39 @@
+use borrow.Author.Needs.{needs}
+use mathlib.Core.Path.{_≡_, sym, _∙_}
+use Rattle.node.proofs.Opened.{is-open}
+use Rattle.bench_host.proofs.bench_survey.Statement.{statement}
+use Rattle.bench_host.proofs.bench_survey.Tie as tie
+
+open-requires : tie.Need-open-requires
+open-requires c κs = search needs
+
+enum-told : tie.Need-enum-told
+enum-told c = search needs
+
+enum-known-h : tie.Need-enum-known-h
+enum-known-h c = search needs
+
+survey-tree-requires : tie.Need-survey-tree-requires
+survey-tree-requires c κs =
+    let a = c .before .before .before .before .before .args in
+    let o = is-open (a .words .now) _ (sym (c .before .before .before .«open» .ensures) ∙ c .before .h .given .1) in
+    rw (o .header-is) (o .fits, o .inside)
+
+enum-told-2 : tie.Need-enum-told-2
+enum-told-2 c = search needs
+
+enum-known-k : tie.Need-enum-known-k
+enum-known-k c = search needs
+
+returns : tie.Need-returns
+returns c = search needs
+
+returns-2 : tie.Need-returns-2
+returns-2 c = search needs
+
+returns-3 : tie.Need-returns-3
+returns-3 c = search needs
+
+pub bench-survey-spec : {M : Type 1} → statement M
+bench-survey-spec =
+    tie.close (tie.spec open-requires enum-told enum-known-h survey-tree-requires enum-told-2 enum-known-k returns returns-2 returns-3)

@@ -1,0 +1,58 @@
+use borrow.Author.Needs.{needs}
+use mathlib.Core.Path.{_≡_, sym, _∙_}
+use native.Mathlib.Omega.{arith}
+use Rattle.node.proofs.Opened.{is-open}
+use Rattle.bench_host.proofs.bench_test_node.Statement.{statement}
+use Rattle.bench_host.proofs.bench_test_node.Tie as tie
+
+open-requires : tie.Need-open-requires
+open-requires c κs = search needs
+
+enum-told : tie.Need-enum-told
+enum-told c = search needs
+
+enum-known-h : tie.Need-enum-known-h
+enum-known-h c = search needs
+
+returns : tie.Need-returns
+returns c = search needs
+
+limit-requires : tie.Need-limit-requires
+limit-requires c κs = search needs
+
+test-node-requires : tie.Need-test-node-requires
+test-node-requires c κs =
+    let a = c .before .before .before .before .before .before .before .before .before .args in
+    let o = is-open (a .words .now) _ (sym (c .before .before .before .before .before .before .before .«open» .ensures) ∙ c .before .before .before .before .before .h .given .1) in
+    ((rw (o .header-is) (o .fits)), omega arith)
+
+enum-told-2 : tie.Need-enum-told-2
+enum-told-2 c = search needs
+
+enum-known-first : tie.Need-enum-known-first
+enum-known-first c = search needs
+
+returns-2 : tie.Need-returns-2
+returns-2 c = search needs
+
+returns-3 : tie.Need-returns-3
+returns-3 c = search needs
+
+returns-4 : tie.Need-returns-4
+returns-4 c = search needs
+
+pub bench-test-node-spec : {M : Type 1} → statement M
+bench-test-node-spec =
+    tie.close
+    (tie.spec
+    open-requires
+    enum-told
+    enum-known-h
+    returns
+    limit-requires
+    test-node-requires
+    enum-told-2
+    enum-known-first
+    returns-2
+    returns-3
+    returns-4)
