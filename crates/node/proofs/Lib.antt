@@ -1,3 +1,4 @@
 pub mod Passed
 pub mod Opened
 pub mod Rows
+pub mod Outs
