@@ -1,3 +1,4 @@
 pub mod Following
 pub mod Passes
 pub mod Exactly
+pub mod Unique

@@ -1,4 +1,4 @@
 pub mod RightEdge
-pub mod NewPaths
 pub mod Writing
 pub mod FromHeader
+pub mod Unique

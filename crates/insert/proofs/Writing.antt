@@ -21,7 +21,7 @@ use Rattle.pool.specs.Write.{listed}
 use Rattle.pool.proofs.Links.{link}
 use Rattle.insert.specs.declared.limits.Ruling.{Ruling}
 use Rattle.insert.specs.declared.limits.Ruling.the-variants.{Fine, Refused}
-use Rattle.insert.specs.Room.{Inside, numberAt}
+use Rattle.grow.specs.Inside.{Inside, numberAt}
 use Rattle.insert.specs.Placed.{checked, placed}
 
 never : {A : Type 0} (r : Refusal) → Refused r ≡ Fine → A

@@ -1,26 +1,15 @@
 -- The right edge, on any words.
 use Prim.Native.Nat.{ℕ, zero, suc, _+_, _-_, _<_, _≤_}
-use mathlib.Core.List.{List, [], _∷_}
+use mathlib.Core.List.{List}
 use mathlib.Core.Path.{_≡_}
-use lib.ListN.{getD}
 use Rattle.model.specs.Words.{part, height, count, child, freeCount, rowLimit, maxHeight}
 use Rattle.model.specs.Reading.{toRight}
 use Rattle.model.specs.Append as A
 use Rattle.model.specs.Append.{appendStart}
-use Rattle.model.specs.declared.id.NodeNo.{NodeNo}
 use Rattle.insert.specs.declared.room.Room.{Room}
 
 abbrev pub roomOf : Room → A.Room
 roomOf o = record { node = o .node .0; needed = o .needed }
-
--- number i of an array of nodes
-abbrev pub numberAt : List NodeNo → ℕ → ℕ
-numberAt l i = getD l i (record { 0 = 0 }) .0
-
--- these nodes are in the pool
-unfoldable pub Inside : ℕ → List ℕ → Type 0
-Inside P [] = Unit {0}
-Inside P (n ∷ ns) = (n < P) × Inside P ns
 
 -- the nodes down from n, of height h, by the last entry of each: they are in the pool, and branches have entries
 unfoldable pub Edge : ℕ → ℕ → List ℕ → ℕ → ℕ → Type 0

@@ -1,21 +1,25 @@
-// Append: a page of rows after the last one.
+// Append: a page of rows after the last.
 
 ghost use mathlib.Core.Path.{_≡_};
+ghost use mathlib.Core.Logic.{_≢_};
 ghost use Prim.Native.Nat.{_+_, _<_};
-ghost use Rattle.model.specs.Words.{freeCount, freeHead};
+ghost use lib.Dec.{leb};
+ghost use Rattle.model.specs.Words.{freeCount, freeHead, height, pick};
 ghost use Rattle.model.specs.Tree.{Open};
 ghost use Rattle.model.specs.Reading.{leaf};
 ghost use Rattle.model.specs.Refusals.{inserted};
-ghost use Rattle.model.specs.Append.{appendTo, insertRowPage};
+ghost use Rattle.model.specs.Append.{appendTo, hang, insertRowPage, splitRoot};
 ghost use Rattle.node.specs.Layout.{Fits};
+ghost use Rattle.pool.specs.Write.{listed};
+ghost use Rattle.grow.specs.Inside.{Inside, numberAt};
 ghost use Rattle.insert.specs.Room.{Ready, Usable, roomOf};
 ghost use Rattle.insert.specs.Placed.{placed};
-use crate::grow::NewPage;
 use crate::limits::Ruling;
 use crate::room::Room;
 use descend::path;
 use descend::path::Reached;
 use descend::path::Toward;
+use grow::NewPage;
 use model::answer::Inserted;
 use model::answer::Refusal;
 use model::answer::RowPageIndexInsert;
@@ -25,11 +29,27 @@ use model::id::RowID;
 use node::header;
 use node::header::Opened;
 use node::header::StoreHeader;
+use node::layout::Layout;
 use pool::chain;
 
-pub mod grow;
 pub mod limits;
 pub mod room;
+
+// The page goes to the node with room; where none has room, the root splits.
+fn grow_tree(l: Layout, s: &mut [u64], root: NodeNo, room: Room, new: NewPage, nodes: [NodeNo; 32])
+    requires { ⌜ Fits l (now s) ⌝ }
+    requires { ⌜ (root .0 < l .pool) × Usable (l .capacity) (l .pool) (now s) (root .0) (roomOf room) ⌝ }
+    requires { ⌜ Inside (l .pool) (listed nodes 0 (room .needed)) × (0 < room .needed → root .0 ≢ numberAt nodes 0) ⌝ }
+    ensures { λ _. ⌜ now (s .exit) ≡ pick (leb (room .needed) (height (l .capacity) (now (s .entry)) (root .0))) (hang (l .capacity) (now (s .entry)) (room .node .0) (new .start .0) (new .end .0) (new .page .0) (listed nodes 0 (room .needed))) (splitRoot (l .capacity) (now (s .entry)) (root .0) (new .start .0) (new .end .0) (new .page .0) (listed nodes 0 (room .needed))) ⌝ }
+{
+    let k = room.needed as usize;
+    let height = l.part(&s[..], root, 0);
+    if room.needed <= height {
+        grow::hang(l, s, room.node, new, nodes, k);
+        return;
+    }
+    grow::split_root(l, s, root, new, nodes, k);
+}
 
 // A new page goes where there is room, with nodes of the chain; they are read and tested before anything is written.
 fn place_page(s: &mut [u64], h: StoreHeader, new: NewPage, room: Room) -> Inserted
@@ -46,7 +66,7 @@ fn place_page(s: &mut [u64], h: StoreHeader, new: NewPage, room: Room) -> Insert
         return Inserted::Refused(Refusal::Unsound(NodeNo(NodeNo::HEADER)));
     }
     let nodes = wanted.nodes;
-    grow::grow_tree(l, s, h.root, room, new, nodes);
+    grow_tree(l, s, h.root, room, new, nodes);
     chain::set_chain(s, wanted.next, h.free_count - room.needed);
     let start_row_id = new.start;
     let end_row_id = new.end;

@@ -8,3 +8,4 @@ pub mod Place
 pub mod Lookup
 pub mod Paths
 pub mod Writes
+pub mod Answers

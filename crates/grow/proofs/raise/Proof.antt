@@ -3,8 +3,8 @@ use native.Mathlib.Omega.{arith}
 use mathlib.Core.Path.{ap}
 use Rattle.model.specs.Append.{raised}
 use Rattle.model.specs.declared.node.RowPageIndexNodeHeader.{RowPageIndexNodeHeader}
-use Rattle.insert.proofs.grow.raise.Statement.{statement}
-use Rattle.insert.proofs.grow.raise.Tie as tie
+use Rattle.grow.proofs.raise.Statement.{statement}
+use Rattle.grow.proofs.raise.Tie as tie
 
 header-requires : tie.Need-header-requires
 header-requires c κs = search needs

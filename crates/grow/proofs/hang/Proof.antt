@@ -3,9 +3,9 @@ use native.Mathlib.Omega.{arith}
 use mathlib.Core.Path.{_≡_, sym, _∙_}
 use Rattle.model.proofs.Words.{header-at}
 use Rattle.model.proofs.Writes.{added-length}
-use Rattle.insert.proofs.NewPaths.{hang-page, hang-path}
-use Rattle.insert.proofs.grow.hang.Statement.{statement}
-use Rattle.insert.proofs.grow.hang.Tie as tie
+use Rattle.grow.proofs.NewPaths.{hang-page, hang-path}
+use Rattle.grow.proofs.hang.Statement.{statement}
+use Rattle.grow.proofs.hang.Tie as tie
 
 add-page-requires : tie.Need-add-page-requires
 add-page-requires c κs = search needs

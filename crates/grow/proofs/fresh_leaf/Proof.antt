@@ -1,7 +1,7 @@
 use borrow.Author.Needs.{needs}
 use Rattle.model.specs.Append.{fresh}
-use Rattle.insert.proofs.grow.fresh_leaf.Statement.{statement}
-use Rattle.insert.proofs.grow.fresh_leaf.Tie as tie
+use Rattle.grow.proofs.fresh_leaf.Statement.{statement}
+use Rattle.grow.proofs.fresh_leaf.Tie as tie
 
 put-header-requires : tie.Need-put-header-requires
 put-header-requires c κs = search needs

@@ -13,7 +13,7 @@ use Rattle.model.specs.declared.id.NodeNo.{NodeNo}
 use Rattle.model.proofs.Words.{put-length, header-at}
 use Rattle.model.proofs.Writes.{put-keeps, copied-length, copied-keeps}
 use Rattle.pool.specs.Write.{listed}
-use Rattle.insert.specs.Room.{Inside, numberAt}
+use Rattle.grow.specs.Inside.{Inside, numberAt}
 
 length-listed : (l : List NodeNo) (i k : ℕ) → length (listed l i k) ≡ k
 unfolding listed

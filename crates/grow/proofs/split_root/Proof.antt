@@ -3,9 +3,9 @@ use native.Mathlib.Omega.{arith}
 use mathlib.Core.Path.{_≡_, sym, _∙_}
 use Rattle.model.proofs.Words.{put-header, header-at}
 use Rattle.model.proofs.Writes.{copied-length}
-use Rattle.insert.proofs.NewPaths.{inside-at, inside-rest, split-is, split-high, raised-header}
-use Rattle.insert.proofs.grow.split_root.Statement.{statement}
-use Rattle.insert.proofs.grow.split_root.Tie as tie
+use Rattle.grow.proofs.NewPaths.{inside-at, inside-rest, split-is, split-high, raised-header}
+use Rattle.grow.proofs.split_root.Statement.{statement}
+use Rattle.grow.proofs.split_root.Tie as tie
 
 array-copy-out-copy : tie.Need-array-copy-out-copy
 array-copy-out-copy c = search needs

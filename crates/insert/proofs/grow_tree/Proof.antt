@@ -2,8 +2,8 @@ use borrow.Author.Needs.{needs}
 use native.Mathlib.Omega.{arith}
 use mathlib.Core.Path.{_≡_, sym, _∙_}
 use borrow.Author.Tests.{le-leb, lt-leb}
-use Rattle.insert.proofs.grow.grow_tree.Statement.{statement}
-use Rattle.insert.proofs.grow.grow_tree.Tie as tie
+use Rattle.insert.proofs.grow_tree.Statement.{statement}
+use Rattle.insert.proofs.grow_tree.Tie as tie
 
 part-requires : tie.Need-part-requires
 part-requires c κs = search needs

@@ -1,15 +1,13 @@
-// What an append writes to nodes.
+// What an append writes to nodes: one more entry, a new path, a root of two entries.
 
 ghost use mathlib.Core.Path.{_≡_};
 ghost use mathlib.Core.Logic.{_≢_};
 ghost use Prim.Native.Nat.{_+_, _-_, _≤_, _<_};
-ghost use lib.Dec.{leb};
-ghost use Rattle.model.specs.Words.{NONE, count, height, pick};
+ghost use Rattle.model.specs.Words.{NONE, count, height};
 ghost use Rattle.model.specs.Append.{fresh, hang, newPath, raised, splitRoot};
 ghost use Rattle.node.specs.Layout.{Fits};
 ghost use Rattle.pool.specs.Write.{listed};
-ghost use Rattle.insert.specs.Room.{Inside, Usable, numberAt, roomOf};
-use crate::room::Room;
+ghost use Rattle.grow.specs.Inside.{Inside, numberAt};
 use model::id::NodeNo;
 use model::id::PageID;
 use model::id::RowID;
@@ -25,11 +23,12 @@ pub struct NewPage {
 }
 
 // Node n becomes a branch of one entry; new branches end at NONE.
-fn fresh_branch(l: Layout, s: &mut [u64], n: NodeNo, height: u64, start: RowID, child: NodeNo)
+fn fresh_branch(l: Layout, s: &mut [u64], n: NodeNo, height: u64, new: NewPage, child: NodeNo)
     requires { ⌜ Fits l (now s) ⌝ }
     requires { ⌜ n .0 < l .pool ⌝ }
-    ensures { λ _. ⌜ now (s .exit) ≡ fresh (l .capacity) (now (s .entry)) (n .0) height (start .0) NONE (child .0) ⌝ }
+    ensures { λ _. ⌜ now (s .exit) ≡ fresh (l .capacity) (now (s .entry)) (n .0) height (new .start .0) NONE (child .0) ⌝ }
 {
+    let start = new.start;
     let header = RowPageIndexNodeHeader {
         height,
         count: 1,
@@ -69,7 +68,7 @@ fn new_path(l: Layout, s: &mut [u64], new: NewPage, nodes: [NodeNo; 32], at: usi
     while i < leaf {
         let n = nodes[i];
         let below = nodes[i + 1];
-        fresh_branch(l, s, n, (leaf - i) as u64, new.start, below);
+        fresh_branch(l, s, n, (leaf - i) as u64, new, below);
         i += 1;
     }
     let n = nodes[leaf];
@@ -77,7 +76,7 @@ fn new_path(l: Layout, s: &mut [u64], new: NewPage, nodes: [NodeNo; 32], at: usi
 }
 
 // One more entry in node n: the page, where n is the right leaf, or a path of k nodes over it.
-fn hang(l: Layout, s: &mut [u64], n: NodeNo, new: NewPage, nodes: [NodeNo; 32], k: usize)
+pub fn hang(l: Layout, s: &mut [u64], n: NodeNo, new: NewPage, nodes: [NodeNo; 32], k: usize)
     requires { ⌜ Fits l (now s) ⌝ }
     requires { ⌜ (n .0 < l .pool) × (count (l .capacity) (now s) (n .0) < l .capacity) × (k ≤ 32) × Inside (l .pool) (listed nodes 0 k) ⌝ }
     ensures { λ _. ⌜ now (s .exit) ≡ hang (l .capacity) (now (s .entry)) (n .0) (new .start .0) (new .end .0) (new .page .0) (listed nodes 0 k) ⌝ }
@@ -107,7 +106,7 @@ fn raise(l: Layout, s: &mut [u64], n: NodeNo, copy: NodeNo, start: RowID, top: N
 }
 
 // The root's copy, which ends where the page begins, and a path of the other nodes become the root's two entries.
-fn split_root(l: Layout, s: &mut [u64], n: NodeNo, new: NewPage, nodes: [NodeNo; 32], k: usize)
+pub fn split_root(l: Layout, s: &mut [u64], n: NodeNo, new: NewPage, nodes: [NodeNo; 32], k: usize)
     requires { ⌜ Fits l (now s) ⌝ }
     requires { ⌜ (n .0 < l .pool) × (height (l .capacity) (now s) (n .0) ≤ 31) × (2 ≤ k) × (k ≤ 32) × Inside (l .pool) (listed nodes 0 k) × (n .0 ≢ numberAt nodes 0) ⌝ }
     ensures { λ _. ⌜ now (s .exit) ≡ splitRoot (l .capacity) (now (s .entry)) (n .0) (new .start .0) (new .end .0) (new .page .0) (listed nodes 0 k) ⌝ }
@@ -118,27 +117,4 @@ fn split_root(l: Layout, s: &mut [u64], n: NodeNo, new: NewPage, nodes: [NodeNo;
     write::put(l, s, copy, 3, new.start.0);
     raise(l, s, n, copy, new.start, top);
     new_path(l, s, new, nodes, 1, k - 1);
-}
-
-// The page goes to the node with room; where none has room, the root splits.
-pub fn grow_tree(
-    l: Layout,
-    s: &mut [u64],
-    root: NodeNo,
-    room: Room,
-    new: NewPage,
-    nodes: [NodeNo; 32],
-)
-    requires { ⌜ Fits l (now s) ⌝ }
-    requires { ⌜ (root .0 < l .pool) × Usable (l .capacity) (l .pool) (now s) (root .0) (roomOf room) ⌝ }
-    requires { ⌜ Inside (l .pool) (listed nodes 0 (room .needed)) × (0 < room .needed → root .0 ≢ numberAt nodes 0) ⌝ }
-    ensures { λ _. ⌜ now (s .exit) ≡ pick (leb (room .needed) (height (l .capacity) (now (s .entry)) (root .0))) (hang (l .capacity) (now (s .entry)) (room .node .0) (new .start .0) (new .end .0) (new .page .0) (listed nodes 0 (room .needed))) (splitRoot (l .capacity) (now (s .entry)) (root .0) (new .start .0) (new .end .0) (new .page .0) (listed nodes 0 (room .needed))) ⌝ }
-{
-    let k = room.needed as usize;
-    let height = l.part(&s[..], root, 0);
-    if room.needed <= height {
-        hang(l, s, room.node, new, nodes, k);
-        return;
-    }
-    split_root(l, s, root, new, nodes, k);
 }

@@ -5,9 +5,9 @@ use native.Mathlib.Omega.{arith}
 use Rattle.model.specs.Append.{newPath}
 use Rattle.node.specs.Layout.{Fits}
 use Rattle.pool.specs.Write.{listed}
-use Rattle.insert.proofs.NewPaths.{inside-at, path-turn, path-start, path-close}
-use Rattle.insert.proofs.grow.new_path.Statement.{statement}
-use Rattle.insert.proofs.grow.new_path.Tie as tie
+use Rattle.grow.proofs.NewPaths.{inside-at, path-turn, path-start, path-close}
+use Rattle.grow.proofs.new_path.Statement.{statement}
+use Rattle.grow.proofs.new_path.Tie as tie
 
 abbrev Inv-loop : tie.InvT-loop
 Inv-loop l s₀ new at k nodes leaf i₀ s i =

@@ -1,0 +1,262 @@
+// Create, lookup and append on the compiled library, a line for each call: the answer's values, or `no`, the refusal's number
+// and its detail. The lines are held to the file stdout.
+
+use libc::STDOUT_FILENO;
+use model::answer::Created;
+use model::answer::Inserted;
+use model::answer::Refusal;
+use model::answer::RowLocation;
+use model::id::PageID;
+use model::id::RowID;
+
+fn number(r: Refusal) -> u64 {
+    match r {
+        Refusal::BadParameters => 1,
+        Refusal::Unsound(_) => 2,
+        Refusal::Closed => 3,
+        Refusal::RowLimit => 4,
+        Refusal::NoRoom(_) => 5,
+        Refusal::HeightLimit => 6,
+        Refusal::NoPrefix => 7,
+        Refusal::StartDiffers(_) => 8,
+        Refusal::PageDiffers(_) => 9,
+        Refusal::EndDiffers(_) => 10,
+        Refusal::ListTooLong(_) => 11,
+        Refusal::RowBelowPivot(_) => 12,
+        Refusal::ListTooShort(_) => 13,
+    }
+}
+
+fn detail(r: Refusal) -> u64 {
+    match r {
+        Refusal::Unsound(n) => n.0,
+        Refusal::NoRoom(needed) => needed,
+        _ => 0,
+    }
+}
+
+fn print_space() {
+    let space = [b' '];
+    io::write_all(STDOUT_FILENO, &space);
+}
+
+fn print_line(a: u64, b: u64, c: u64) {
+    io::print_decimal(STDOUT_FILENO, a);
+    print_space();
+    io::print_decimal(STDOUT_FILENO, b);
+    print_space();
+    io::print_decimal(STDOUT_FILENO, c);
+    let end = [b'\n'];
+    io::write_all(STDOUT_FILENO, &end);
+}
+
+fn print_refusal(r: Refusal) {
+    let no = [b'n', b'o', b' '];
+    io::write_all(STDOUT_FILENO, &no);
+    io::print_decimal(STDOUT_FILENO, number(r));
+    print_space();
+    io::print_decimal(STDOUT_FILENO, detail(r));
+    let end = [b'\n'];
+    io::write_all(STDOUT_FILENO, &end);
+}
+
+// A new store, and its line.
+fn make(s: &mut [u64], capacity: u64, nodes: u64, start: u64) {
+    match create::new(s, capacity, nodes, RowID(start)) {
+        Created::Done => {
+            let done = [b'c', b'r', b'e', b'a', b't', b'e', b'\n'];
+            io::write_all(STDOUT_FILENO, &done);
+        }
+        Created::Refused(r) => print_refusal(r),
+    }
+}
+
+// An append, and its line.
+fn append(s: &mut [u64], count: u64, page: u64) {
+    match insert::insert_row_page(s, count, PageID(page)) {
+        Inserted::Done(i) => {
+            print_line(i.start_row_id.0, i.end_row_id.0, i.taken_nodes);
+        }
+        Inserted::Refused(r) => print_refusal(r),
+    }
+}
+
+// Two pages of ten rows.
+fn append_two(s: &mut [u64], first: u64, second: u64) {
+    append(s, 10, first);
+    append(s, 10, second);
+}
+
+// A lookup, and its line.
+fn find_row(s: &[u64], row: u64) {
+    match find::try_find_row(s, RowID(row)) {
+        RowLocation::RowPage(page) => {
+            let found = [b'p', b'a', b'g', b'e', b' '];
+            io::write_all(STDOUT_FILENO, &found);
+            io::print_decimal(STDOUT_FILENO, page.0);
+            let end = [b'\n'];
+            io::write_all(STDOUT_FILENO, &end);
+        }
+        RowLocation::NotFound => {
+            let none = [b'n', b'o', b'n', b'e', b'\n'];
+            io::write_all(STDOUT_FILENO, &none);
+        }
+        RowLocation::Refused(r) => print_refusal(r),
+    }
+}
+
+// Word i of a store, damaged.
+fn damage(s: &mut [u64], i: usize, x: u64) {
+    if i < s.len() {
+        s[i] = x;
+    }
+}
+
+// Node n of capacity 2, a full one that leads to child by its second entry.
+fn full_node(s: &mut [u64], n: usize, height: u64, start: u64, second: u64, end: u64, child: u64) {
+    if 100 < n {
+        return;
+    }
+    let at = 8 + 8 * n;
+    damage(s, at, height);
+    damage(s, at + 1, 2);
+    damage(s, at + 2, start);
+    damage(s, at + 3, end);
+    damage(s, at + 4, start);
+    damage(s, at + 6, second);
+    damage(s, at + 7, child);
+}
+
+// Nodes 1 to 31 have their number as their height, and each leads to the one before it.
+fn full_branches(s: &mut [u64]) {
+    let mut h: u64 = 1;
+    while h < 32 {
+        full_node(s, h as usize, h, 31 - h, 32 - h, u64::MAX, h - 1);
+        h += 1;
+    }
+}
+
+// Rows on both sides of the pages' edges.
+fn find_edges(s: &[u64]) {
+    find_row(s, 0);
+    find_row(s, 9);
+    find_row(s, 10);
+    find_row(s, 89);
+    find_row(s, 90);
+    find_row(s, u64::MAX);
+}
+
+// Nine pages take 0 0 2 0 3 0 1 0 4 nodes, and the tenth page needs none.
+fn nine_pages(s: &mut [u64]) {
+    make(s, 2, 16, 0);
+    find_row(s, 0);
+    append_two(s, 1, 2);
+    append_two(s, 3, 4);
+    append_two(s, 5, 6);
+    append_two(s, 7, 8);
+    append(s, 10, 9);
+    find_edges(s);
+    append(s, 10, 10);
+    find_row(s, 90);
+}
+
+// Rows of both leaves, where word i was damaged: a path reads the root and one leaf.
+fn find_damaged(s: &mut [u64], i: usize, x: u64) {
+    make(s, 2, 16, 5);
+    append_two(s, 1, 2);
+    append_two(s, 3, 4);
+    damage(s, i, x);
+    find_row(s, 4);
+    find_row(s, 5);
+    find_row(s, 25);
+}
+
+// The right leaf's count; a child number out of range; the root's height; a closed store; the header; a store of seven
+// words.
+fn damaged_paths(s: &mut [u64]) {
+    find_damaged(s, 25, 3);
+    find_damaged(s, 15, 77);
+    find_damaged(s, 8, 32);
+    find_damaged(s, 2, 16);
+    find_damaged(s, 1, 15);
+    let short = [2u64; 7];
+    find_row(&short, 0);
+}
+
+// Pools of two nodes and of one.
+fn small_pools() {
+    let mut two = [0u64; 24];
+    make(&mut two, 2, 2, 0);
+    append_two(&mut two, 1, 2);
+    append(&mut two, 10, 3);
+    let mut one = [0u64; 16];
+    make(&mut one, 2, 1, 5);
+    append_two(&mut one, 1, 2);
+    append(&mut one, 10, 3);
+}
+
+// Rows up to 2^62.
+fn row_limits(s: &mut [u64]) {
+    make(s, 2, 16, 0);
+    append(s, 0, 1);
+    append(s, (1 << 62) + 1, 1);
+    append(s, u64::MAX, 1);
+    append(s, 1 << 62, 1);
+    append(s, 1, 2);
+    make(s, 2, 16, 1 << 62);
+    append(s, 1, 1);
+    make(s, 2, 16, (1 << 62) + 1);
+}
+
+// A right edge that is full up to height 31: 6 comes before 5.
+fn height_limit() {
+    let mut tall = [0u64; 264];
+    make(&mut tall, 2, 32, 0);
+    full_node(&mut tall, 0, 0, 31, 32, 40, 0);
+    full_branches(&mut tall);
+    damage(&mut tall, 2, 31);
+    append(&mut tall, 1, 1);
+}
+
+// Capacity, pool and length of a new store.
+fn bad_parameters(s: &mut [u64]) {
+    make(s, 1, 16, 0);
+    make(s, 4095, 16, 0);
+    make(s, 2, 0, 0);
+    make(s, 2, 65536, 0);
+    make(s, 2, 15, 0);
+    make(s, u64::MAX, u64::MAX, u64::MAX);
+}
+
+// The third of three pages, where word i was damaged before it; it needs two nodes.
+fn damaged_at(s: &mut [u64], i: usize, x: u64) {
+    make(s, 2, 16, 0);
+    append_two(s, 1, 2);
+    damage(s, i, x);
+    append(s, 10, 3);
+}
+
+// A closed store; root, free count and capacity out of range; an unsound node; chain nodes that are not free, followed
+// by no number, repeated; a free count of one.
+fn damaged_stores(s: &mut [u64]) {
+    damaged_at(s, 2, 16);
+    damaged_at(s, 2, 17);
+    damaged_at(s, 4, 17);
+    damaged_at(s, 0, 3);
+    damaged_at(s, 9, 3);
+    damaged_at(s, 16, 0);
+    damaged_at(s, 25, 17);
+    damaged_at(s, 17, 1);
+    damaged_at(s, 4, 1);
+}
+
+fn main() {
+    let mut s = [0u64; 136];
+    nine_pages(&mut s);
+    damaged_paths(&mut s);
+    small_pools();
+    row_limits(&mut s);
+    height_limit();
+    bad_parameters(&mut s);
+    damaged_stores(&mut s);
+}
