@@ -1,14 +1,14 @@
 -- One turn of following the chain, and what comes after it.
-use Prim.Native.Nat.{ℕ, zero, suc, _+_, _-_, _<_, _≤_}
+use Prim.Native.Nat.{ℕ, suc, _+_, _-_, _<_, _≤_}
 use mathlib.Core.List.{List, [], _∷_}
-use mathlib.Core.Bool.{Bool, true, false, _&&_}
-use mathlib.Core.Path.{_≡_, refl}
+use mathlib.Core.Bool.{Bool, true, false}
+use mathlib.Core.Path.{_≡_}
 use native.Mathlib.Omega.{arith}
-use lib.Dec.{ltb, eqb}
+use lib.Dec.{eqb}
 use borrow.Author.Tests.{lt-ltb, le-ltb, eq-eqb, ne-eqb}
-use Rattle.model.specs.Words.{pick, part, height, count, freeMark}
+use Rattle.model.specs.Words.{height, count, freeMark}
 use Rattle.model.specs.FullCheck.{chainEnds}
-use Rattle.model.specs.Refusals.{Answer, result, damaged}
+use Rattle.model.specs.Refusals.{result, damaged}
 use Rattle.node.specs.declared.header.StoreHeader.{StoreHeader}
 use Rattle.survey.specs.declared.Counts.{Counts}
 use Rattle.full_check.specs.Ending.{ending}

@@ -1,18 +1,16 @@
 -- What the two readings of the tree decide of the full check, on an open store.
-use Prim.Native.Nat.{ℕ, _+_, _<_, _≤_}
-use mathlib.Core.List.{List, [], _∷_}
-use mathlib.Core.Bool.{Bool, true, false, _&&_}
-use mathlib.Core.Path.{_≡_, refl, sym, ap, _∙_, subst}
+use Prim.Native.Nat.{ℕ}
+use mathlib.Core.List.{List}
+use mathlib.Core.Bool.{Bool, true, false}
+use mathlib.Core.Path.{_≡_, sym, _∙_, subst}
 use lib.ListN.{length}
-use lib.Dec.{eqb}
-use Rattle.model.specs.Words.{pick, capacity, pool, root, freeHead, freeCount, height}
-use Rattle.model.specs.Reading.{Visit, clear, at, unlessBad, firstBad, rootVisits, rootEntries, rootNodes}
-use Rattle.model.specs.FullCheck.{chainEnds, fullCheck}
-use Rattle.model.specs.Refusals.{Answer, result, refused, damaged}
+use Rattle.model.specs.Words.{capacity, pool, root}
+use Rattle.model.specs.Reading.{Visit, clear, firstBad, rootVisits, rootEntries, rootNodes}
+use Rattle.model.specs.FullCheck.{fullCheck}
+use Rattle.model.specs.Refusals.{Answer, refused}
 use Rattle.formed.proofs.Rooted.{root-sound}
-use Rattle.node.specs.Layout.{storeHeader, opened}
+use Rattle.node.specs.Layout.{storeHeader}
 use Rattle.node.specs.declared.header.StoreHeader.{StoreHeader}
-use Rattle.node.specs.declared.header.Opened.the-variants.{Open}
 use Rattle.node.proofs.Opened.{IsOpen, goes-on}
 use Rattle.survey.specs.Tally.{noCounts, tally}
 use Rattle.survey.specs.declared.Counts.{Counts}

@@ -1,7 +1,7 @@
 -- The last of the full check: the chain, and tree nodes and free nodes together.
 use Prim.Native.Nat.{ℕ, _+_}
 use mathlib.Core.List.{List, [], _∷_}
-use mathlib.Core.Bool.{Bool, true, false, _&&_}
+use mathlib.Core.Bool.{_&&_}
 use lib.Dec.{eqb}
 use Rattle.model.specs.Words.{pick}
 use Rattle.model.specs.FullCheck.{chainEnds}

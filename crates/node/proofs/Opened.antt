@@ -42,6 +42,7 @@ pub record IsOpen (w : List ℕ) (h : StoreHeader) : Type 0 where
   pub head-in : freeHead w ≤ pool w
   pub free-in : freeCount w ≤ pool w
   pub passes : headerOk w ≡ true
+  pub not-closed : eqb (root w) (pool w) ≡ false
 
 module _ (w : List ℕ) where
   pub is-open : (h : StoreHeader) → opened w ≡ Open h → IsOpen w h
@@ -59,6 +60,7 @@ module _ (w : List ℕ) where
         head-in = p .head-in;
         free-in = p .free-in;
         passes = t;
+        not-closed = u;
       }))
       (λ t. let q : Refused (Unsound (record { 0 = 65535 })) ≡ Open h = rw t at e in let z : _≡_ {A = ℕ} 0 1 = cc in absurd (omega arith))
 
@@ -72,4 +74,12 @@ module _ (w : List ℕ) where
       (λ t. let q : Refused (Unsound (record { 0 = 65535 })) ≡ Refused r = rw t at e in let d : Unsound (record { 0 = 65535 }) ≡ r = cc in rw (t, ← d))
 
   pub goes-on : (h : StoreHeader) → IsOpen w h → {A : Type 0} (refuse : Answer → A) (a : A) → whenOpen w refuse a ≡ a
-  goes-on h o refuse a = rw (o .passes, ne-eqb (root w) (pool w) (λ e. omega (arith, o .inside)))
+  goes-on h o refuse a = rw (o .passes, o .not-closed)
+
+module _ (w : List ℕ) (h : StoreHeader) (o : IsOpen w h) where
+  -- the same by the header that was read
+  pub opens-fits : Header (h .layout .capacity) (h .layout .pool) w × (h .root .0 < h .layout .pool)
+  opens-fits = rw (o .header-is) (o .fits, o .inside)
+
+  pub opens-free : (h .«free_count» ≤ 65535) × (freeCount w ≤ 65535)
+  opens-free = rw (o .header-is) (omega (arith, o .free-in, o .fits .pool-high), omega (arith, o .free-in, o .fits .pool-high))

@@ -107,7 +107,7 @@ module _ {C P : ℕ} {W : List ℕ} {k j : ℕ} {w : List ℕ} {p : Path} (f : F
       no-bad n a = absurd (subst (λ (vs : List Visit). T (clean vs)) (a .one) (f .all-clean))
 
       -- a child that no visit calls unsound is entered
-      sound-in : Moves false C P w p (Enter kid) (enteredPath p kid)
+      pub sound-in : Moves false C P w p (Enter kid) (enteredPath p kid)
       sound-in =
           let n = lastOf p .node .0 in
           let g = height C w n - 1 in

@@ -1,15 +1,15 @@
 -- What a survey tells: the first unsound node, or, on a sound root, the tree's own counts.
 use Prim.Native.Nat.{ℕ, zero, suc, _+_, _*_, _^_, _<_, _≤_}
 use mathlib.Core.List.{List, [], _∷_, _++_}
-use mathlib.Core.Bool.{Bool, true, false}
+use mathlib.Core.Bool.{false}
 use mathlib.Core.Path.{_≡_, refl, sym, ap, _∙_}
 use native.Mathlib.Omega.{arith}
 use native.Mathlib.Nat.{zero-add, mul-le-mul-left, mul-le-mul-right}
 use lib.ListN.{length}
-use lib.Dec.{T, ltb, eqb}
+use lib.Dec.{T, eqb}
 use borrow.Author.Tests.{lt-ltb, eq-eqb, ne-eqb}
-use Rattle.model.specs.Words.{pick, part, height, count, start, end, row, child, Header}
-use Rattle.model.specs.Tree.{Limit, Open, pairsFrom, Level, level, next, last, overPairs, allPairs, AllSound}
+use Rattle.model.specs.Words.{pick, height, count, start, end, row, child, Header}
+use Rattle.model.specs.Tree.{Limit, Open, pairsFrom, level, next, last, overPairs, allPairs, AllSound}
 use Rattle.model.specs.Reading.{Visit, Enter, Leave, Bad, visits, rootVisits, Fault, clear, at, firstBad, rootEntries, rootNodes}
 use Rattle.model.specs.WellFormed.{SoundRoot, emptyTree, soundTree}
 use Rattle.model.proofs.Tests.{by-test}

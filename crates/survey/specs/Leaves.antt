@@ -1,8 +1,8 @@
 -- How many leaves a tree has.
 use Prim.Native.Nat.{ℕ, zero, suc, _+_}
 use mathlib.Core.List.{List, [], _∷_}
-use Rattle.model.specs.Words.{part, height}
-use Rattle.model.specs.Tree.{Node, Level}
+use Rattle.model.specs.Words.{height}
+use Rattle.model.specs.Tree.{Level}
 use Rattle.model.specs.Reading.{rootTree}
 
 -- f of each pair, added up

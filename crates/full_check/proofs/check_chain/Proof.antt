@@ -1,5 +1,5 @@
 use borrow.Author.Needs.{needs}
-use mathlib.Core.Path.{_≡_, sym, _∙_}
+use mathlib.Core.Path.{sym, _∙_}
 use borrow.Author.Tests.{not-true, not-false}
 use Rattle.full_check.proofs.Following.{end-chain, end-count, end-held}
 use Rattle.full_check.proofs.check_chain.Statement.{statement}

@@ -1,14 +1,12 @@
 use borrow.Author.Needs.{needs}
-use mathlib.Core.Path.{_≡_, refl, sym, ap, _∙_, subst}
-use Rattle.node.specs.Layout.{storeHeader, opened}
-use Rattle.node.proofs.Opened.{IsOpen, is-open}
-use Rattle.full_check.specs.Ending.{ending}
+use mathlib.Core.Path.{sym, _∙_}
+use Rattle.node.proofs.Opened.{is-open, opens-fits}
 use Rattle.full_check.proofs.Passes.{first-bad, second-bad, both-clear}
 use Rattle.full_check.proofs.check_open.Statement.{statement}
 use Rattle.full_check.proofs.check_open.Tie as tie
 
 survey-tree-requires : tie.Need-survey-tree-requires
-survey-tree-requires c κs = let o = is-open _ _ (c .before .pre) in rw (o .header-is) (o .fits, o .inside)
+survey-tree-requires c κs = opens-fits _ _ (is-open _ _ (c .before .pre))
 
 enum-known-n : tie.Need-enum-known-n
 enum-known-n c = search needs
@@ -17,7 +15,7 @@ enum-known-counts : tie.Need-enum-known-counts
 enum-known-counts c = search needs
 
 survey-tree-requires-2 : tie.Need-survey-tree-requires-2
-survey-tree-requires-2 c κs = let o = is-open _ _ (c .before .before .before .before .before .pre) in rw (o .header-is) (o .fits, o .inside)
+survey-tree-requires-2 c κs = opens-fits _ _ (is-open _ _ (c .before .before .before .before .before .pre))
 
 enum-known-n-2 : tie.Need-enum-known-n-2
 enum-known-n-2 c = search needs

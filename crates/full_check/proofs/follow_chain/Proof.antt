@@ -1,6 +1,5 @@
 use borrow.Author.Needs.{needs}
-use Prim.Native.Nat.{ℕ, _-_, _<_, _≤_}
-use mathlib.Core.Path.{_≡_, refl, sym, ap, _∙_}
+use mathlib.Core.Path.{_≡_, refl, sym, _∙_}
 use native.Mathlib.Omega.{arith}
 use Rattle.model.specs.Words.{part}
 use Rattle.model.specs.FullCheck.{chainEnds}
@@ -18,13 +17,13 @@ loop-holds : tie.Need-loop-holds Inv-loop μ-loop
 loop-holds c = refl
 
 returns : tie.Need-returns Inv-loop μ-loop
-returns c = sym (c .before .before .before .before .loop .inv ∙ ends-out _ _ _ _ _ (c .before .before .before .loop-test .taken) (c .if1 .taken))
+returns c = sym (c .before .before .before .before .loop .inv ∙ ends-out _ _ _ _ _ (omega (arith, c .before .before .before .loop-test .taken)) (c .if1 .taken))
 
 part-requires : tie.Need-part-requires Inv-loop μ-loop
 part-requires c κs = search needs
 
 returns-2 : tie.Need-returns-2 Inv-loop μ-loop
-returns-2 c = sym (c .before .before .before .before .before .before .loop .inv ∙ ends-mark _ _ _ _ _ (c .before .before .before .before .before .loop-test .taken) (c .before .before .if1 .left) (rw (c .before .part .ensures) at (c .if2 .taken)))
+returns-2 c = sym (c .before .before .before .before .before .before .loop .inv ∙ ends-mark _ _ _ _ _ (omega (arith, c .before .before .before .before .before .loop-test .taken)) (c .before .before .if1 .left) (rw (c .before .part .ensures) at (c .if2 .taken)))
 
 part-requires-2 : tie.Need-part-requires-2 Inv-loop μ-loop
 part-requires-2 c κs = search needs
@@ -36,10 +35,10 @@ loop-less : tie.Need-loop-less Inv-loop μ-loop
 loop-less c = search needs
 
 loop-again : tie.Need-loop-again Inv-loop μ-loop
-loop-again c = c .before .before .before .before .before .before .before .loop .inv ∙ ends-turn _ _ _ _ _ (c .before .before .before .before .before .before .loop-test .taken) (c .before .before .before .if1 .left) (sym (c .before .before .part .ensures) ∙ c .before .if2 .left) ∙ rw (c .part2 .ensures)
+loop-again c = c .before .before .before .before .before .before .before .loop .inv ∙ ends-turn _ _ _ _ _ (omega (arith, c .before .before .before .before .before .before .loop-test .taken)) (c .before .before .before .if1 .left) (sym (c .before .before .part .ensures) ∙ c .before .if2 .left) ∙ rw (c .part2 .ensures)
 
 returns-3 : tie.Need-returns-3 Inv-loop μ-loop
-returns-3 c = sym (c .before .before .before .loop .inv ∙ ends-done _ _ _ _ _ (c .before .before .loop-test .left))
+returns-3 c = sym (c .before .before .before .loop .inv ∙ ends-done _ _ _ _ _ (omega (arith, c .before .before .loop-test .left)))
 
 pub follow-chain-spec : {M : Type 1} → statement M
 follow-chain-spec =

@@ -1,5 +1,5 @@
 use borrow.Author.Needs.{needs}
-use mathlib.Core.Path.{_≡_, refl, sym, ap, _∙_, subst}
+use mathlib.Core.Path.{sym, _∙_}
 use Rattle.model.specs.Refusals.{Answer}
 use Rattle.model.specs.FullCheck.{fullCheck}
 use Rattle.node.proofs.Opened.{is-refused}

@@ -1,0 +1,26 @@
+-- The leaf walk with records written as words.
+use Prim.Native.Nat.{ℕ, _*_, _/_, _≤_}
+use mathlib.Core.List.{List, [], _∷_}
+use mathlib.Core.Path.{_≡_}
+use lib.ListN.{length}
+use Rattle.model.specs.Words.{fill}
+use Rattle.model.specs.Refusals.{nextLeaf}
+use Rattle.model.specs.LeafWalk.{nextLeafOf}
+use Rattle.model.specs.declared.node.PageEntry.{PageEntry}
+use Rattle.model.specs.declared.cursor.RowPageIndexMemCursor.{RowPageIndexMemCursor}
+use Rattle.byvalue.specs.declared.WordStep.{WordStep}
+
+-- row and page of each record in turn
+unfoldable pub wordsOf : List PageEntry → List ℕ
+wordsOf [] = []
+wordsOf (e ∷ es) = e .«row_id» .0 ∷ e .«page_id» .0 ∷ wordsOf es
+
+-- Answer and cursor are those of next for every list of records that the words have room for; the records that it
+-- gives out are written as words, and the other words stay.
+pub record WordSteps (w : List ℕ) (c : RowPageIndexMemCursor) (before after : List ℕ) (r : WordStep) : Type 0 where
+  pub given : List PageEntry
+  pub answer : (l : List PageEntry) → length l ≡ length before / 2 → nextLeaf (r .answer) ≡ nextLeafOf w c l .answer
+  pub cursor : (l : List PageEntry) → length l ≡ length before / 2 → r .cursor ≡ nextLeafOf w c l .cursor
+  pub list : (l : List PageEntry) → length l ≡ length before / 2 → nextLeafOf w c l .list ≡ fill l 0 given
+  pub few : length given ≤ length before / 2
+  pub words : after ≡ fill before 0 (wordsOf given)

@@ -1,0 +1,60 @@
+// The leaf walk for callers that hold the cursor by value and lend plain words.
+
+ghost use mathlib.Core.Path.{_≡_};
+ghost use Prim.Native.Nat.{_*_, _≤_};
+ghost use lib.ListN.{length};
+ghost use Rattle.model.specs.Words.{fill};
+ghost use Rattle.model.specs.LeafWalk as W;
+ghost use Rattle.listing.specs.Listing.{Readable, recordsOf};
+ghost use Rattle.byvalue.specs.Written.{WordSteps, wordsOf};
+use listing::LeafEntries;
+use model::answer::NextLeaf;
+use model::cursor::RowPageIndexMemCursor;
+use model::id::RowID;
+
+// The answer, and the cursor afterwards.
+pub struct WordStep {
+    pub answer: NextLeaf,
+    pub cursor: RowPageIndexMemCursor,
+}
+
+// `seek` of a cursor held by value.
+pub fn seek_value(c: RowPageIndexMemCursor, row: RowID) -> RowPageIndexMemCursor
+    ensures { λ r. ⌜ r ≡ W.seek (row .0) ⌝ }
+{
+    let mut d = c;
+    cursor::seek(&mut d, row);
+    d
+}
+
+// Row and page of each entry in turn.
+fn copy_words(s: &[u64], out: &mut [u64], e: LeafEntries)
+    requires { ⌜ Readable (now s) e × (2 * e .count ≤ length (now out)) ⌝ }
+    ensures { λ _. ⌜ now (out .exit) ≡ fill (now (out .entry)) 0 (wordsOf (recordsOf (now (s .entry)) e)) ⌝ }
+{
+    let count = e.count;
+    let mut i: usize = 0;
+    while i < count {
+        let r = listing::entry_at(s, e, i);
+        let row = r.row_id;
+        let page = r.page_id;
+        out[2 * i] = row.0;
+        out[2 * i + 1] = page.0;
+        i += 1;
+    }
+}
+
+// `next` with a list of words in place of the list of records: two words to a record.
+pub fn next_words(s: &[u64], cursor: RowPageIndexMemCursor, out: &mut [u64]) -> WordStep
+    ensures { λ r. ⌜ WordSteps (now (s .entry)) cursor (now (out .entry)) (now (out .exit)) r ⌝ }
+{
+    let p = cursor::step(s, cursor, out.len() / 2);
+    let entries = p.entries;
+    copy_words(s, out, entries);
+    let answer = p.answer;
+    let after = p.cursor;
+    WordStep {
+        answer,
+        cursor: after,
+    }
+}

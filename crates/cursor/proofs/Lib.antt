@@ -1,0 +1,5 @@
+pub mod Stepping
+pub mod Lined
+pub mod Chosen
+pub mod Walk
+pub mod Unique

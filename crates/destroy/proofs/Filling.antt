@@ -1,0 +1,73 @@
+-- Page ids that go into a lent list.
+use Prim.Native.Nat.{ℕ, zero, suc, _+_, _-_, _<_, _≤_}
+use mathlib.Core.List.{List, [], _∷_, _++_, append-assoc}
+use mathlib.Core.Path.{_≡_, refl, sym, ap, _∙_}
+use native.Mathlib.Omega.{arith}
+use native.Mathlib.Nat.{sub-zero}
+use lib.ListN.{length, set, drop, length-set, length-append}
+use borrow.Author.Tests.{eq-eqb, ne-eqb}
+use Rattle.model.specs.Words.{fill, height, count, child}
+use Rattle.destroy.specs.Pages.{pagesFrom, pagesAt}
+
+-- Lists ---------------------------------------------------------------------------------------------------
+
+pub fill-append : (l : List ℕ) (a : ℕ) (xs ys : List ℕ) → fill l a (xs ++ ys) ≡ fill (fill l a xs) (a + length xs) ys
+unfolding fill
+fill-append l a [] ys = ap (λ (k : ℕ). fill l k ys) (let e : a ≡ a + 0 = omega arith in e)
+fill-append l a (x ∷ xs) ys =
+    fill-append (set l a x) (a + 1) xs ys ∙ ap (λ (k : ℕ). fill (fill (set l a x) (a + 1) xs) k ys) (let e : a + 1 + length xs ≡ a + suc (length xs) = omega arith in e)
+
+pub fill-length : (l : List ℕ) (a : ℕ) (xs : List ℕ) → length (fill l a xs) ≡ length l
+unfolding fill
+fill-length l a [] = refl
+fill-length l a (x ∷ xs) = fill-length (set l a x) (a + 1) xs ∙ length-set l a x
+
+set-at : (a : List ℕ) (y : ℕ) (l : List ℕ) (x : ℕ) → set (a ++ (y ∷ l)) (length a) x ≡ (a ++ (x ∷ [])) ++ l
+set-at [] y l x = refl
+set-at (b ∷ a) y l x = ap (λ (m : List ℕ). b ∷ m) (set-at a y l x)
+
+fill-after : (a l xs : List ℕ) → length xs ≤ length l → fill (a ++ l) (length a) xs ≡ a ++ (xs ++ drop (length xs) l)
+unfolding fill
+fill-after a l [] h = refl
+fill-after a [] (x ∷ xs) h = absurd (omega arith)
+fill-after a (y ∷ l) (x ∷ xs) h =
+    ap (λ (m : List ℕ). fill m (length a + 1) xs) (set-at a y l x)
+    ∙ ap (λ (k : ℕ). fill ((a ++ (x ∷ [])) ++ l) k xs) (sym (length-append a (x ∷ [])))
+    ∙ fill-after (a ++ (x ∷ [])) l xs (omega arith)
+    ∙ append-assoc a (x ∷ []) (xs ++ drop (length xs) l)
+
+-- the list afterwards: the numbers, and what stood behind them
+pub fill-is : (l xs : List ℕ) → length xs ≤ length l → fill l 0 xs ≡ xs ++ drop (length xs) l
+fill-is l xs h = fill-after [] l xs h
+
+-- The page ids of one node --------------------------------------------------------------------------------
+
+module _ (C : ℕ) (w : List ℕ) (n : ℕ) where
+  pub pages-length : (i k : ℕ) → length (pagesFrom C w n i k) ≡ k
+  unfolding pagesFrom
+  pages-length i zero = refl
+  pages-length i (suc k) = ap suc (pages-length (i + 1) k)
+
+  pub leaf-pages : height C w n ≡ 0 → pagesAt C w n ≡ pagesFrom C w n 0 (count C w n)
+  unfolding pagesAt
+  leaf-pages e = rw (eq-eqb (height C w n) 0 e)
+
+  pub branch-pages : (height C w n ≡ 0 → ⊥) → pagesAt C w n ≡ []
+  unfolding pagesAt
+  branch-pages e = rw (ne-eqb (height C w n) 0 e)
+
+  pub leaf-length : height C w n ≡ 0 → length (pagesAt C w n) ≡ count C w n
+  leaf-length e = ap length (leaf-pages e) ∙ pages-length 0 (count C w n)
+
+  -- the turns of a loop over them
+  pub fill-start : (l : List ℕ) (a k : ℕ) → fill l a (pagesFrom C w n 0 k) ≡ fill l a (pagesFrom C w n 0 (k - 0))
+  fill-start l a k = rw sub-zero
+
+  module _ (l : List ℕ) (a i k : ℕ) where
+    pub fill-more : i < k → fill l a (pagesFrom C w n i (k - i)) ≡ fill (set l a (child C w n i)) (a + 1) (pagesFrom C w n (i + 1) (k - (i + 1)))
+    unfolding fill pagesFrom
+    fill-more h = let e : k - i ≡ suc (k - (i + 1)) = omega arith in rw e
+
+    pub fill-done : k ≤ i → fill l a (pagesFrom C w n i (k - i)) ≡ l
+    unfolding fill pagesFrom
+    fill-done h = let e : k - i ≡ 0 = omega arith in rw e

@@ -1,0 +1,21 @@
+-- The contracts of destroy and destroy_empty decide their answers, the words and the list.
+use Prim.Native.Nat.{ℕ}
+use mathlib.Core.List.{List}
+use mathlib.Core.Path.{_≡_, sym, _∙_}
+use Rattle.model.specs.Refusals.{destroyed}
+use Rattle.model.specs.Release.{destroy, destroyEmpty}
+use Rattle.model.specs.declared.answer.Destroyed.{Destroyed}
+use Rattle.model.proofs.Answers.{destroyed-one}
+
+-- an answer, words and a list that the contract allows
+pub record Allowed (w : List ℕ) (pivot : ℕ) (pages : List ℕ) (a : Destroyed) (v l : List ℕ) : Type 0 where
+  pub answer : destroyed a ≡ destroy w pivot pages .answer
+  pub words : v ≡ destroy w pivot pages .words
+  pub list : l ≡ destroy w pivot pages .list
+
+pub destroy-unique : (w : List ℕ) (pivot : ℕ) (pages : List ℕ) (a b : Destroyed) (v u l m : List ℕ) → Allowed w pivot pages a v l → Allowed w pivot pages b u m
+    → (a ≡ b) × (v ≡ u) × (l ≡ m)
+destroy-unique w pivot pages a b v u l m p q = (destroyed-one a b (p .answer ∙ sym (q .answer)), p .words ∙ sym (q .words), p .list ∙ sym (q .list))
+
+pub empty-unique : (w : List ℕ) (a b : Destroyed) → destroyed a ≡ destroyEmpty w .answer → destroyed b ≡ destroyEmpty w .answer → a ≡ b
+empty-unique w a b p q = destroyed-one a b (p ∙ sym q)
