@@ -1,19 +1,17 @@
 -- Whether words are as many as a store needs, and what create leaves.
-use Prim.Native.Nat.{ℕ, zero, suc, _+_, _-_, _<_, _≤_}
-use mathlib.Core.List.{List, [], _∷_}
+use Prim.Native.Nat.{ℕ, _-_, _<_, _≤_}
+use mathlib.Core.List.{List, []}
 use mathlib.Core.Bool.{Bool, true, false, _&&_}
-use mathlib.Core.Path.{_≡_, refl, sym, ap, _∙_}
-use native.Mathlib.Omega.{arith}
+use mathlib.Core.Path.{_≡_}
 use lib.ListN.{length, length-set}
 use lib.Seq.{sets}
-use lib.Dec.{T, leb, eqb, leb→le, eqb→eq}
+use lib.Dec.{leb, eqb, leb→le, eqb→eq}
 use borrow.Author.Tests.{le-leb, lt-leb}
-use Rattle.model.specs.Words.{pick, put, emptied, capacityOk, poolOk, storeLength, rowLimit, Header}
-use Rattle.model.specs.Refusals.{result, refused, Outcome}
+use Rattle.model.specs.Words.{emptied, capacityOk, poolOk, storeLength, rowLimit, Header}
+use Rattle.model.specs.Refusals.{result, refused}
 use Rattle.model.specs.Create.{chained, newHeader, newStore, create}
 use Rattle.model.proofs.Tests.{and-l, and-r, by-test, holds}
 use Rattle.model.proofs.Words.{header-at}
-use Rattle.model.proofs.Writes.{emptied-length}
 
 module _ (C P : ℕ) (w : List ℕ) where
   abbrev pub sized : Bool

@@ -6,3 +6,4 @@ pub mod Pivot
 pub mod Deciding
 pub mod ByLedger
 pub mod Unique
+pub mod EmptyLedger

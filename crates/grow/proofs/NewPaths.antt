@@ -1,17 +1,17 @@
 -- Nodes of an array, and the new path over them.
-use Prim.Native.Nat.{ℕ, zero, suc, _+_, _*_, _-_, _<_, _≤_}
+use Prim.Native.Nat.{ℕ, zero, suc, _+_, _-_, _<_, _≤_}
 use mathlib.Core.List.{List, [], _∷_}
 use mathlib.Core.Path.{_≡_, refl, sym, ap, _∙_, subst}
 use mathlib.Core.Logic.{⊎-elim, _≢_}
 use native.Mathlib.Omega.{arith}
 use native.Mathlib.Nat.{eq-or-lt-of-le}
 use native.Mathlib.Numerals.{add-one}
-use lib.ListN.{getD, length}
-use Rattle.model.specs.Words.{part, put, added, copied, height, count, NONE, maxHeight, Header}
+use lib.ListN.{length}
+use Rattle.model.specs.Words.{put, added, copied, height, NONE, maxHeight, Header}
 use Rattle.model.specs.Append.{fresh, topOf, endOver, newPath, hang, raised, splitRoot}
 use Rattle.model.specs.declared.id.NodeNo.{NodeNo}
 use Rattle.model.proofs.Words.{put-length, header-at}
-use Rattle.model.proofs.Writes.{put-keeps, copied-length, copied-keeps}
+use Rattle.model.proofs.Writes.{put-keeps, copied-keeps}
 use Rattle.pool.specs.Write.{listed}
 use Rattle.grow.specs.Inside.{Inside, numberAt}
 

@@ -22,7 +22,7 @@ pub struct NewPage {
     pub page: PageID,
 }
 
-// Node n becomes a branch of one entry; new branches end at NONE.
+// Node n becomes a branch of one entry. New branches end at NONE.
 fn fresh_branch(l: Layout, s: &mut [u64], n: NodeNo, height: u64, new: NewPage, child: NodeNo)
     requires { ⌜ Fits l (now s) ⌝ }
     requires { ⌜ n .0 < l .pool ⌝ }

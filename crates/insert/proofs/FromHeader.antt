@@ -1,7 +1,7 @@
 -- An append from its first test on.
 use Prim.Native.Nat.{ℕ, _<_}
 use mathlib.Core.List.{List}
-use mathlib.Core.Path.{_≡_, refl, sym, ap, _∙_, subst}
+use mathlib.Core.Path.{_≡_, refl, sym, _∙_, subst}
 use Rattle.model.specs.Words.{capacity, pool, root, freeHead, freeCount}
 use Rattle.model.specs.Tree.{Limit, Open}
 use Rattle.model.specs.Reading.{Reached, unsound, leaf, rootLeaf, toRight}
@@ -11,13 +11,26 @@ use Rattle.model.specs.declared.answer.Refusal.{Refusal}
 use Rattle.node.specs.Layout.{Fits, storeHeader, opened}
 use Rattle.node.specs.declared.header.StoreHeader.{StoreHeader}
 use Rattle.node.specs.declared.header.Opened.the-variants.{Open as Opens, Refused}
-use Rattle.node.proofs.Opened.{is-open, is-refused, goes-on}
+use Rattle.node.proofs.Opened.{is-open, is-refused, goes-on, opens-fits}
 use Rattle.insert.specs.Room.{Ready}
 use Rattle.insert.proofs.RightEdge.{ready}
 
 -- the right leaf of an open store
 abbrev pub right : List ℕ → StoreHeader → Reached
 right w h = rootLeaf (toRight (h .layout .capacity) w) (h .layout .capacity) (h .layout .pool) w (h .root .0)
+
+module _ (w : List ℕ) (h : StoreHeader) (e : opened w ≡ Opens h) where
+  is-header : h ≡ storeHeader w
+  is-header = is-open w h e .header-is
+
+  pub open-fits : Fits (h .layout) w × (h .root .0 < h .layout .pool)
+  open-fits = opens-fits w h (is-open w h e)
+
+  pub open-chain : (h .«free_head» .0 ≡ freeHead w) × (h .«free_count» ≡ freeCount w)
+  open-chain = subst (λ (z : StoreHeader). (z .«free_head» .0 ≡ freeHead w) × (z .«free_count» ≡ freeCount w)) (sym is-header) (refl, refl)
+
+  pub leaf-ready : (l : ℕ) (b : Limit) → right w h ≡ leaf l b → Ready (h .layout .capacity) (h .layout .pool) w (h .root .0) l
+  leaf-ready l b q = ready (h .layout .capacity) (h .layout .pool) w (h .root .0) l b (open-fits .1) q
 
 module _ (w : List ℕ) (k x : ℕ) where
   abbrev refuse : Answer → Outcome
@@ -28,20 +41,11 @@ module _ (w : List ℕ) (k x : ℕ) where
   insert-refused r e = is-refused w r e refuse _
 
   module _ (h : StoreHeader) (e : opened w ≡ Opens h) where
-    is-header : h ≡ storeHeader w
-    is-header = is-open w h e .header-is
-
-    pub open-fits : Fits (h .layout) w × (h .root .0 < h .layout .pool)
-    open-fits =
-        let q = is-open w h e in
-        subst (λ (z : StoreHeader). Fits (z .layout) w × (z .root .0 < z .layout .pool)) (sym is-header) (q .fits, q .inside)
-
-    pub open-chain : (h .«free_head» .0 ≡ freeHead w) × (h .«free_count» ≡ freeCount w)
-    open-chain = subst (λ (z : StoreHeader). (z .«free_head» .0 ≡ freeHead w) × (z .«free_count» ≡ freeCount w)) (sym is-header) (refl, refl)
-
     insert-open : insertRowPage w k x ≡ appendTo (h .layout .capacity) (h .layout .pool) w (h .root .0) k x (right w h)
     unfolding insertRowPage
-    insert-open = subst (λ (z : StoreHeader). insertRowPage w k x ≡ appendTo (z .layout .capacity) (z .layout .pool) w (z .root .0) k x (right w z)) (sym is-header) (goes-on w h (is-open w h e) refuse _)
+    insert-open =
+        subst (λ (z : StoreHeader). insertRowPage w k x ≡ appendTo (z .layout .capacity) (z .layout .pool) w (z .root .0) k x (right w z)) (sym (is-header w h e))
+        (goes-on w h (is-open w h e) refuse _)
 
     pub insert-unsound : (m : ℕ) → right w h ≡ unsound m → insertRowPage w k x ≡ record { answer = refused 2 m; words = w }
     unfolding appendTo
@@ -50,6 +54,3 @@ module _ (w : List ℕ) (k x : ℕ) where
     pub insert-leaf : (l : ℕ) (b : Limit) → right w h ≡ leaf l b → insertRowPage w k x ≡ appendTo (h .layout .capacity) (h .layout .pool) w (h .root .0) k x (leaf l Open)
     unfolding appendTo
     insert-leaf l b q = insert-open ∙ rw q
-
-    pub leaf-ready : (l : ℕ) (b : Limit) → right w h ≡ leaf l b → Ready (h .layout .capacity) (h .layout .pool) w (h .root .0) l
-    leaf-ready l b q = ready (h .layout .capacity) (h .layout .pool) w (h .root .0) l b (open-fits .1) q

@@ -1,15 +1,15 @@
 -- The right edge that a path to the right leaf went down, and room on it.
 use Prim.Native.Nat.{ℕ, zero, suc, _+_, _-_, _<_, _≤_}
-use mathlib.Core.List.{List, [], _∷_}
-use mathlib.Core.Bool.{Bool, true, false, _&&_, _||_}
+use mathlib.Core.List.{List}
+use mathlib.Core.Bool.{true}
 use mathlib.Core.Path.{_≡_, refl, sym, ap, _∙_, subst}
 use mathlib.Core.Logic.{⊎-elim, _⊎_, inl, inr, _≢_}
 use native.Mathlib.Omega.{arith}
-use lib.Dec.{T, leb, ltb, eqb, leb→le, eqb→eq}
-use borrow.Author.Tests.{lt-ltb, le-ltb, eq-eqb, ne-eqb, ltb-true, ltb-false, leb-true, eqb-true, eqb-false}
-use Rattle.model.specs.Words.{pick, part, height, count, start, end, row, child, freeCount, NONE, rowLimit, maxHeight}
-use Rattle.model.specs.Tree.{Limit, Open, Below, nodeAt, sound, meets, endSound, emptyRoot}
-use Rattle.model.specs.Reading.{Reached, unsound, leaf, nextRow, checked, descend, rootLeaf, toRight}
+use lib.Dec.{leb, ltb, eqb, leb→le, eqb→eq}
+use borrow.Author.Tests.{lt-ltb, le-ltb, eq-eqb, ne-eqb, ltb-true, leb-true}
+use Rattle.model.specs.Words.{pick, height, count, start, end, row, child, freeCount, rowLimit, maxHeight}
+use Rattle.model.specs.Tree.{Limit, Open, nodeAt, sound, endSound, emptyRoot}
+use Rattle.model.specs.Reading.{unsound, leaf, nextRow, checked, descend, rootLeaf, toRight}
 use Rattle.model.specs.Append.{Room, appendStart, roomFrom, room}
 use Rattle.model.proofs.Tests.{and-l, and-r, by-test, holds}
 use Rattle.node.proofs.Rows.{facts}

@@ -1,17 +1,17 @@
 -- An append after its path: the tests that are left, and the writes.
 use Prim.Native.Nat.{ℕ, zero, suc, _+_, _-_, _<_, _≤_}
 use mathlib.Core.List.{List, [], _∷_, _++_}
-use mathlib.Core.Bool.{Bool, true, false, _&&_, _||_, false≢true}
-use mathlib.Core.Path.{_≡_, refl, sym, ap, _∙_, subst}
+use mathlib.Core.Bool.{true, false, _&&_, _||_, false≢true}
+use mathlib.Core.Path.{_≡_, sym, ap, _∙_, subst}
 use mathlib.Core.Logic.{_≢_}
 use native.Mathlib.Omega.{arith}
 use lib.ListN.{set}
 use lib.Dec.{leb, ltb, eqb}
-use borrow.Author.Tests.{lt-ltb, le-ltb, eq-eqb, ne-eqb, ltb-true, ltb-false, eqb-true, eqb-false}
-use Rattle.model.specs.Words.{pick, part, height, count, freeHead, freeCount, freeMark, rowLimit, maxHeight}
+use borrow.Author.Tests.{lt-ltb, le-ltb, eq-eqb, ne-eqb, ltb-false}
+use Rattle.model.specs.Words.{pick, height, count, freeHead, freeCount, rowLimit, maxHeight}
 use Rattle.model.specs.Tree.{Limit}
-use Rattle.model.specs.Reading.{occ, leaf}
-use Rattle.model.specs.Refusals.{Answer, result, refused, damaged, Outcome, refusal}
+use Rattle.model.specs.Reading.{leaf}
+use Rattle.model.specs.Refusals.{result, damaged, Outcome, refusal}
 use Rattle.model.specs.Append.{Room, appendStart, room, firsts, past, chainSound, taken, hang, splitRoot, appendAt, appendTo}
 use Rattle.model.specs.declared.id.NodeNo.{NodeNo}
 use Rattle.model.specs.declared.answer.Refusal.{Refusal}

@@ -1,5 +1,5 @@
 -- The last tests of an append.
-use Prim.Native.Nat.{ℕ, zero, suc, _+_}
+use Prim.Native.Nat.{ℕ, _+_}
 use mathlib.Core.List.{List, [], _∷_}
 use mathlib.Core.Bool.{_&&_, _||_}
 use lib.Dec.{ltb, eqb}

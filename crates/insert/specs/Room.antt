@@ -1,8 +1,8 @@
 -- The right edge, on any words.
-use Prim.Native.Nat.{ℕ, zero, suc, _+_, _-_, _<_, _≤_}
+use Prim.Native.Nat.{ℕ, zero, suc, _+_, _<_, _≤_}
 use mathlib.Core.List.{List}
 use mathlib.Core.Path.{_≡_}
-use Rattle.model.specs.Words.{part, height, count, child, freeCount, rowLimit, maxHeight}
+use Rattle.model.specs.Words.{height, count, child, freeCount, rowLimit, maxHeight}
 use Rattle.model.specs.Reading.{toRight}
 use Rattle.model.specs.Append as A
 use Rattle.model.specs.Append.{appendStart}

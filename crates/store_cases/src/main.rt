@@ -1,11 +1,16 @@
-// Create, lookup and append on the compiled library, a line for each call: the answer's values, or `no`, the refusal's number
+// The calls on the compiled library, a line for each call: the answer's values, or `no`, the refusal's number
 // and its detail. The lines are held to the file stdout.
 
+use byvalue;
 use libc::STDOUT_FILENO;
+use model::answer::Checked;
 use model::answer::Created;
+use model::answer::Destroyed;
 use model::answer::Inserted;
+use model::answer::NextLeaf;
 use model::answer::Refusal;
 use model::answer::RowLocation;
+use model::cursor::RowPageIndexMemCursor;
 use model::id::PageID;
 use model::id::RowID;
 
@@ -31,6 +36,8 @@ fn detail(r: Refusal) -> u64 {
     match r {
         Refusal::Unsound(n) => n.0,
         Refusal::NoRoom(needed) => needed,
+        Refusal::RowBelowPivot(row) => row.0,
+        Refusal::ListTooShort(wanted) => wanted,
         _ => 0,
     }
 }
@@ -250,6 +257,166 @@ fn damaged_stores(s: &mut [u64]) {
     damaged_at(s, 4, 1);
 }
 
+// A leaf of a walk.
+fn print_leaf(start: u64, end: u64, count: u64) {
+    let leaf = [b'l', b'e', b'a', b'f', b' '];
+    io::write_all(STDOUT_FILENO, &leaf);
+    print_line(start, end, count);
+}
+
+fn print_end() {
+    let end = [b'e', b'n', b'd', b'\n'];
+    io::write_all(STDOUT_FILENO, &end);
+}
+
+// A walk of at most twenty leaves from a cursor on, with lists of len words, two to a record.
+fn walk_on(s: &[u64], cursor: RowPageIndexMemCursor, list: &mut [u64]) {
+    let mut c = cursor;
+    let mut more: u64 = 20;
+    while 0 < more {
+        let step = byvalue::next_words(s, c, list);
+        c = step.cursor;
+        let answer = step.answer;
+        match answer {
+            NextLeaf::Found(leaf) => print_leaf(leaf.start_row_id.0, leaf.end_row_id.0, leaf.count),
+            NextLeaf::Done => {
+                print_end();
+                return;
+            }
+            NextLeaf::Refused(r) => {
+                print_refusal(r);
+                return;
+            }
+        }
+        more -= 1;
+    }
+}
+
+// A walk from a row, with lists of two records.
+fn walk(s: &[u64], row: u64) {
+    let mut list = [0u64; 4];
+    walk_on(
+        s,
+        byvalue::seek_value(RowPageIndexMemCursor::new(), RowID(row)),
+        &mut list,
+    );
+}
+
+// The full check: entries, tree nodes, free nodes.
+fn check(s: &[u64]) {
+    match full_check::full_check(s) {
+        Checked::WellFormed {
+            entries,
+            nodes,
+            free,
+        } => print_line(entries, nodes, free),
+        Checked::Refused(r) => print_refusal(r),
+    }
+}
+
+fn print_release(answer: Destroyed) {
+    match answer {
+        Destroyed::Done { nodes, pages } => {
+            let done = [b'r', b'e', b'l', b'e', b'a', b's', b'e', b' '];
+            io::write_all(STDOUT_FILENO, &done);
+            io::print_decimal(STDOUT_FILENO, nodes);
+            print_space();
+            io::print_decimal(STDOUT_FILENO, pages);
+            let end = [b'\n'];
+            io::write_all(STDOUT_FILENO, &end);
+        }
+        Destroyed::Refused(r) => print_refusal(r),
+    }
+}
+
+// Nine pages, with no lines but those of their appends.
+fn grow_nine(s: &mut [u64]) {
+    make(s, 2, 16, 0);
+    append_two(s, 1, 2);
+    append_two(s, 3, 4);
+    append_two(s, 5, 6);
+    append_two(s, 7, 8);
+    append(s, 10, 9);
+}
+
+// Walks from the start, from inside, past the end; of a cursor never sought; with a list one record short; of an empty
+// root; over a leaf that is unsound.
+fn walks(s: &mut [u64]) {
+    make(s, 2, 16, 7);
+    walk(s, 0);
+    grow_nine(s);
+    walk(s, 0);
+    walk(s, 45);
+    walk(s, 1000);
+    let mut list = [0u64; 4];
+    walk_on(s, RowPageIndexMemCursor::new(), &mut list);
+    let mut short = [0u64; 3];
+    walk_on(
+        s,
+        byvalue::seek_value(RowPageIndexMemCursor::new(), RowID(0)),
+        &mut short,
+    );
+    damage(s, 25, 3);
+    walk(s, 0);
+}
+
+// Five pages, word i damaged, and the full check.
+fn check_damaged(s: &mut [u64], i: usize, x: u64) {
+    make(s, 2, 16, 0);
+    append_two(s, 1, 2);
+    append_two(s, 3, 4);
+    append(s, 10, 5);
+    damage(s, i, x);
+    check(s);
+}
+
+// A row of a leaf; a child number; an end of a leaf, of the left branch, of the right one.
+fn check_nodes(s: &mut [u64]) {
+    check_damaged(s, 30, 10);
+    check_damaged(s, 15, 16);
+    check_damaged(s, 19, 21);
+    check_damaged(s, 35, 39);
+    check_damaged(s, 43, 49);
+}
+
+// The chain's head, a link that closes it on itself, a mark; the free count; a word that no rule names.
+fn check_chains(s: &mut [u64]) {
+    check_damaged(s, 3, 16);
+    check_damaged(s, 57, 6);
+    check_damaged(s, 56, 0);
+    check_damaged(s, 4, 9);
+    check_damaged(s, 7, 1);
+}
+
+fn checks(s: &mut [u64]) {
+    make(s, 2, 16, 7);
+    check(s);
+    grow_nine(s);
+    check(s);
+    check_nodes(s);
+    check_chains(s);
+}
+
+// Release below the pivot, with a list one page short, at the pivot; then every call is refused but create.
+fn releases(s: &mut [u64]) {
+    let mut short = [0u64; 8];
+    let mut pages = [0u64; 10];
+    grow_nine(s);
+    print_release(destroy::destroy(s, RowID(1), &mut pages));
+    print_release(destroy::destroy(s, RowID(0), &mut short));
+    print_release(destroy::destroy_empty(s));
+    print_release(destroy::destroy(s, RowID(0), &mut pages));
+    print_line(pages[0], pages[8], pages[9]);
+    print_release(destroy::destroy(s, RowID(0), &mut pages));
+    find_row(s, 0);
+    append(s, 10, 1);
+    walk(s, 0);
+    check(s);
+    make(s, 2, 16, 7);
+    print_release(destroy::destroy_empty(s));
+    print_release(destroy::destroy_empty(s));
+}
+
 fn main() {
     let mut s = [0u64; 136];
     nine_pages(&mut s);
@@ -259,4 +426,7 @@ fn main() {
     height_limit();
     bad_parameters(&mut s);
     damaged_stores(&mut s);
+    walks(&mut s);
+    checks(&mut s);
+    releases(&mut s);
 }

@@ -1,11 +1,10 @@
 use borrow.Author.Needs.{needs}
-use mathlib.Core.Path.{_≡_, sym, ap, _∙_}
+use mathlib.Core.Path.{sym, ap, _∙_}
 use native.Mathlib.Omega.{arith}
 use borrow.Author.Tests.{not-true, not-false}
 use Rattle.model.specs.Words.{emptied}
 use Rattle.model.specs.Refusals.{Outcome}
-use Rattle.model.proofs.Words.{header-at}
-use Rattle.model.proofs.Writes.{emptied-length}
+use Rattle.model.proofs.Words.{put-header}
 use Rattle.create.proofs.Stores.{sized-header, create-unsized, create-late, create-done, written}
 use Rattle.create.proofs.new.Statement.{statement}
 use Rattle.create.proofs.new.Tie as tie
@@ -44,11 +43,10 @@ put-header-requires c κs =
     (rw (c .before .before .before .write-header .ensures) (written (a .capacity) (a .nodes) (a .s .now) hd), omega (arith, hd .pool-low))
 
 link-nodes-requires : tie.Need-link-nodes-requires
-unfolding emptied
 link-nodes-requires c κs =
     let a = c .before .before .before .before .before .before .before .before .before .before .before .before .before .before .before .args in
     let hd = sized-header (a .capacity) (a .nodes) (a .s .now) (sym (c .before .before .before .before .before .before .before .before .before .before .before .before .fits2 .ensures) ∙ not-false _ (c .before .before .before .before .before .before .before .before .before .before .before .if1 .left)) in
-    rw (c .before .before .before .put-header .ensures, c .before .before .before .before .before .before .before .write-header .ensures) (header-at _ _ _ _ (written (a .capacity) (a .nodes) (a .s .now) hd) (emptied-length _ _ 0 (a .start .0)))
+    rw (c .before .before .before .put-header .ensures, c .before .before .before .before .before .before .before .write-header .ensures) (put-header _ _ _ (put-header _ _ _ (put-header _ _ _ (put-header _ _ _ (written (a .capacity) (a .nodes) (a .s .now) hd) _ _ _) _ _ _) _ _ _) _ _ _)
 
 same-length-3 : tie.Need-same-length-3
 same-length-3 c = search needs

@@ -1,6 +1,6 @@
 use borrow.Author.Needs.{needs}
 use native.Mathlib.Omega.{arith}
-use mathlib.Core.Path.{_≡_, sym, _∙_}
+use mathlib.Core.Path.{sym, _∙_}
 use Rattle.model.proofs.Words.{header-at}
 use Rattle.model.proofs.Writes.{added-length}
 use Rattle.grow.proofs.NewPaths.{hang-page, hang-path}

@@ -1,6 +1,6 @@
 use borrow.Author.Needs.{needs}
 use native.Mathlib.Omega.{arith}
-use mathlib.Core.Path.{_≡_, sym, _∙_}
+use mathlib.Core.Path.{sym, _∙_}
 use Rattle.model.proofs.Words.{put-header, header-at}
 use Rattle.model.proofs.Writes.{copied-length}
 use Rattle.grow.proofs.NewPaths.{inside-at, inside-rest, split-is, split-high, raised-header}

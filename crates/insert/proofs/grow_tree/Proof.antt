@@ -1,6 +1,6 @@
 use borrow.Author.Needs.{needs}
 use native.Mathlib.Omega.{arith}
-use mathlib.Core.Path.{_≡_, sym, _∙_}
+use mathlib.Core.Path.{_∙_}
 use borrow.Author.Tests.{le-leb, lt-leb}
 use Rattle.insert.proofs.grow_tree.Statement.{statement}
 use Rattle.insert.proofs.grow_tree.Tie as tie

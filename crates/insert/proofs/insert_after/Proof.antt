@@ -1,13 +1,11 @@
 use borrow.Author.Needs.{needs}
-use mathlib.Core.Path.{_≡_, refl, sym, ap, _∙_, subst}
+use mathlib.Core.Path.{_≡_, sym, ap, _∙_, subst}
 use native.Mathlib.Omega.{arith}
-use Prim.Native.Nat.{ℕ, _+_}
-use Rattle.model.specs.Words.{part, height, freeCount}
+use Rattle.model.specs.Words.{part}
 use Rattle.model.specs.Tree.{Open}
 use Rattle.model.specs.Refusals.{Outcome}
-use Rattle.model.specs.Append.{Room, appendStart, room}
+use Rattle.model.specs.Append.{Room, room}
 use Rattle.insert.specs.Room.{roomOf, Usable}
-use Rattle.insert.specs.Placed.{checked, placed}
 use Rattle.insert.proofs.RightEdge.{usable}
 use Rattle.insert.proofs.Writing.{append-refused, append-fine, passes}
 use Rattle.insert.proofs.insert_after.Statement.{statement}

@@ -1,7 +1,6 @@
 use borrow.Author.Needs.{needs}
-use mathlib.Core.Path.{_≡_, refl, sym, ap, _∙_}
+use mathlib.Core.Path.{sym, ap, _∙_}
 use Rattle.model.specs.Refusals.{Outcome}
-use Rattle.node.specs.Test.{limitOf}
 use Rattle.descend.specs.Reached.{reachedOf}
 use Rattle.insert.proofs.FromHeader.{insert-refused, insert-unsound, insert-leaf, open-fits, open-chain, leaf-ready}
 use Rattle.insert.proofs.insert_row_page.Statement.{statement}
@@ -17,7 +16,7 @@ enum-known-h : tie.Need-enum-known-h
 enum-known-h c = search needs
 
 find-leaf-requires : tie.Need-find-leaf-requires
-find-leaf-requires c κs = let a = c .before .before .before .before .before .before .before .args in open-fits (a .s .now) (a .count) (a .page .0) _ (sym (c .before .before .before .before .«open» .ensures) ∙ c .before .before .h .given .1)
+find-leaf-requires c κs = let a = c .before .before .before .before .before .before .before .args in open-fits (a .s .now) _ (sym (c .before .before .before .before .«open» .ensures) ∙ c .before .before .h .given .1)
 
 enum-known-n : tie.Need-enum-known-n
 enum-known-n c = search needs
@@ -30,9 +29,9 @@ insert-after-requires c κs =
     let a = c .before .before .before .before .before .before .before .before .before .before .before .before .args in
     let e = sym (c .before .before .before .before .before .before .before .before .before .«open» .ensures) ∙ c .before .before .before .before .before .before .before .h .given .1 in
     let q = sym (c .before .before .before .before .find-leaf .ensures) ∙ ap reachedOf (c .before .before .last .given .1) in
-    let f = open-fits (a .s .now) (a .count) (a .page .0) _ e in
-    let g = open-chain (a .s .now) (a .count) (a .page .0) _ e in
-    (f .0, ((f .1, g .0, g .1), leaf-ready (a .s .now) (a .count) (a .page .0) _ e _ _ q))
+    let f = open-fits (a .s .now) _ e in
+    let g = open-chain (a .s .now) _ e in
+    (f .0, ((f .1, g .0, g .1), leaf-ready (a .s .now) _ e _ _ q))
 
 same-length : tie.Need-same-length
 same-length c = search needs

@@ -3,7 +3,7 @@ use mathlib.Core.Bool.{true, false}
 use mathlib.Core.Path.{_≡_, sym, ap, _∙_}
 use lib.Dec.{eqb}
 use borrow.Author.Tests.{eqb-true, eqb-false}
-use Rattle.model.specs.Words.{part, count}
+use Rattle.model.specs.Words.{count}
 use Rattle.model.specs.declared.node.RowPageIndexNodeHeader.{RowPageIndexNodeHeader}
 use Rattle.insert.proofs.RightEdge.{start-empty, start-some}
 use Rattle.insert.proofs.room.range_start.Statement.{statement}
