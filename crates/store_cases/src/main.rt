@@ -339,12 +339,8 @@ fn grow_nine(s: &mut [u64]) {
     append(s, 10, 9);
 }
 
-// Walks from the start, from inside, past the end; of a cursor never sought; with a list one record short; of an empty
-// root; over a leaf that is unsound.
-fn walks(s: &mut [u64]) {
-    make(s, 2, 16, 7);
-    walk(s, 0);
-    grow_nine(s);
+// Walks from the start, from inside, past the end; of a cursor never sought; with a list one record short.
+fn walk_nine(s: &[u64]) {
     walk(s, 0);
     walk(s, 45);
     walk(s, 1000);
@@ -356,6 +352,14 @@ fn walks(s: &mut [u64]) {
         byvalue::seek_value(RowPageIndexMemCursor::new(), RowID(0)),
         &mut short,
     );
+}
+
+// Walks of an empty root, of nine pages, and over a leaf that is unsound.
+fn walks(s: &mut [u64]) {
+    make(s, 2, 16, 7);
+    walk(s, 0);
+    grow_nine(s);
+    walk_nine(s);
     damage(s, 25, 3);
     walk(s, 0);
 }
@@ -397,24 +401,34 @@ fn checks(s: &mut [u64]) {
     check_chains(s);
 }
 
-// Release below the pivot, with a list one page short, at the pivot; then every call is refused but create.
-fn releases(s: &mut [u64]) {
+// Release below the pivot, with a list one page short, of the empty form, at the pivot; two pages and what stood behind
+// them in the list.
+fn release_nine(s: &mut [u64]) {
     let mut short = [0u64; 8];
     let mut pages = [0u64; 10];
-    grow_nine(s);
     print_release(destroy::destroy(s, RowID(1), &mut pages));
     print_release(destroy::destroy(s, RowID(0), &mut short));
     print_release(destroy::destroy_empty(s));
     print_release(destroy::destroy(s, RowID(0), &mut pages));
     print_line(pages[0], pages[8], pages[9]);
-    print_release(destroy::destroy(s, RowID(0), &mut pages));
+}
+
+// Every call on a closed store is refused.
+fn closed(s: &mut [u64]) {
     find_row(s, 0);
     append(s, 10, 1);
     walk(s, 0);
     check(s);
+    print_release(destroy::destroy_empty(s));
+}
+
+fn releases(s: &mut [u64]) {
+    grow_nine(s);
+    release_nine(s);
+    closed(s);
     make(s, 2, 16, 7);
     print_release(destroy::destroy_empty(s));
-    print_release(destroy::destroy_empty(s));
+    closed(s);
 }
 
 fn main() {
