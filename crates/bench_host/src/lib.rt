@@ -1,13 +1,18 @@
 // What the benchmark calls: the proved functions, behind C functions that any words may be handed to. No part of the index.
 
+use byvalue;
 use create;
+use destroy;
 use find;
 use full_check;
 use insert;
 use model::answer::Checked;
 use model::answer::Created;
+use model::answer::Destroyed;
 use model::answer::Inserted;
+use model::answer::NextLeaf;
 use model::answer::RowLocation;
+use model::cursor::RowPageIndexMemCursor;
 use model::id::NodeNo;
 use model::id::PageID;
 use model::id::RowID;
@@ -119,5 +124,30 @@ pub extern "C" fn bench_find(words: &[u64], row: u64) -> u64 {
         RowLocation::RowPage(page) => page.0,
         RowLocation::NotFound => NOT_FOUND,
         RowLocation::Refused(_) => REFUSED,
+    }
+}
+
+// One step of a leaf walk from a row, the records as words: the leaf's end.
+#[no_mangle]
+pub extern "C" fn bench_next(words: &[u64], row: u64, list: &mut [u64]) -> u64 {
+    let cursor = RowPageIndexMemCursor {
+        row_id: RowID(row),
+        done: false,
+    };
+    let step = byvalue::next_words(words, cursor, list);
+    let answer = step.answer;
+    match answer {
+        NextLeaf::Refused(_) => REFUSED,
+        NextLeaf::Done => NOT_FOUND,
+        NextLeaf::Found(leaf) => leaf.end_row_id.0,
+    }
+}
+
+// A release: the nodes freed.
+#[no_mangle]
+pub extern "C" fn bench_destroy(words: &mut [u64], pages: &mut [u64]) -> u64 {
+    match destroy::destroy(words, RowID(0), pages) {
+        Destroyed::Refused(_) => REFUSED,
+        Destroyed::Done { nodes, pages: _ } => nodes,
     }
 }
