@@ -1,6 +1,11 @@
 //! Times of the proved calls: `calls C N ROUNDS` prints `NAME NANOSECONDS` lines, the least of the rounds. The appends and
 //! the rows looked up are those that the bench of the Rust makes.
 
+#[allow(dead_code)]
+mod plain;
+#[allow(dead_code)]
+mod store;
+
 use std::hint::black_box;
 use std::time::Instant;
 
@@ -11,6 +16,8 @@ mod rattle {
         fn bench_append(words: *mut u64, len: usize, count: u64, page: u64) -> u64;
         fn bench_find(words: *const u64, len: usize, row: u64) -> u64;
         fn bench_check(words: *const u64, len: usize) -> u64;
+        fn bench_next(words: *const u64, len: usize, row: u64, list: *mut u64, list_len: usize) -> u64;
+        fn bench_destroy(words: *mut u64, len: usize, pages: *mut u64, pages_len: usize) -> u64;
     }
 
     pub fn create(w: &mut [u64], capacity: u64, nodes: u64) -> u64 {
@@ -27,6 +34,14 @@ mod rattle {
 
     pub fn check(w: &[u64]) -> u64 {
         unsafe { bench_check(w.as_ptr(), w.len()) }
+    }
+
+    pub fn next(w: &[u64], row: u64, list: &mut [u64]) -> u64 {
+        unsafe { bench_next(w.as_ptr(), w.len(), row, list.as_mut_ptr(), list.len()) }
+    }
+
+    pub fn destroy(w: &mut [u64], pages: &mut [u64]) -> u64 {
+        unsafe { bench_destroy(w.as_mut_ptr(), w.len(), pages.as_mut_ptr(), pages.len()) }
     }
 }
 
@@ -53,10 +68,13 @@ fn main() {
         2 => 65_535,
         _ => 2 * n / c + 64,
     };
-    let mut best = [f64::MAX; 4];
+    let mut best = [f64::MAX; 8];
     let mut keep = |i: usize, t: Instant, ops: u64| best[i] = best[i].min(t.elapsed().as_nanos() as f64 / ops as f64);
     let mut words = vec![0u64; (8 + nodes * (4 + 2 * c)) as usize];
     let mut held = 0;
+    let mut list = vec![0u64; 2 * c as usize];
+    let mut pages = vec![0u64; n as usize];
+    let mut others = vec![0u64; n as usize];
     for _ in 0..rounds {
         assert_eq!(rattle::create(&mut words, c, nodes), nodes);
         let t = Instant::now();
@@ -86,10 +104,33 @@ fn main() {
         held = black_box(rattle::check(black_box(&words)));
         keep(3, t, held);
         assert!(held <= nodes);
+        let t = Instant::now();
+        assert_eq!(black_box(plain::check(black_box(&words))), held);
+        keep(4, t, held);
+        let (mut row, mut leaves) = (0, 0);
+        let t = Instant::now();
+        while row < 10 * n {
+            row = black_box(rattle::next(black_box(&words), row, &mut list));
+            leaves += 1;
+        }
+        keep(5, t, leaves);
+        assert_eq!(row, 10 * n);
+        let mut copy = words.clone();
+        let t = Instant::now();
+        assert_eq!(plain::destroy(black_box(&mut copy), &mut others), held);
+        keep(6, t, held);
+        let t = Instant::now();
+        assert_eq!(rattle::destroy(black_box(&mut words), &mut pages), held);
+        keep(7, t, held);
+        assert!(copy == words && pages == others);
     }
     println!("nodes {held}");
     println!("append {:.1}", best[0]);
     println!("find {:.1}", best[1]);
     println!("read {:.1}", best[2]);
     println!("check {:.1}", best[3]);
+    println!("plain_check {:.1}", best[4]);
+    println!("walk {:.1}", best[5]);
+    println!("plain_release {:.1}", best[6]);
+    println!("release {:.1}", best[7]);
 }

@@ -1,6 +1,8 @@
 //! Times of the proved node test and of the proved reading of a whole tree, beside plain Rust. Prints tables in Markdown.
 
+#[allow(dead_code)]
 mod plain;
+#[allow(dead_code)]
 mod store;
 
 use std::hint::black_box;

@@ -1,6 +1,6 @@
 //! What the proved functions are compared with: plain safe Rust that makes the same checks, and a sum.
 
-use crate::store::{MAX_HEIGHT, MAX_POOL, NONE, ROW_LIMIT};
+use crate::store::{FREE_MARK, MAX_HEIGHT, MAX_POOL, NONE, ROW_LIMIT};
 
 pub const REFUSED: u64 = u64::MAX;
 pub const UNSOUND: u64 = u64::MAX - 1;
@@ -139,5 +139,74 @@ pub fn survey<const FOUR: bool>(words: &[u64], ends: bool) -> u64 {
         nodes += 1;
         stack.push(Frame { node: child, index: 0, first, next });
     }
+    nodes
+}
+
+/// As `bench_check`: both readings of the tree, then the chain and the counts.
+#[inline(never)]
+pub fn check(words: &[u64]) -> u64 {
+    let nodes = survey::<true>(words, false);
+    if nodes == REFUSED || survey::<true>(words, true) == REFUSED {
+        return REFUSED;
+    }
+    let Some(s) = open(words) else { return REFUSED };
+    let mut n = words[3];
+    for _ in 0..words[4] {
+        if s.pool as u64 <= n {
+            return REFUSED;
+        }
+        let node = s.node(n as usize);
+        if node[0] != FREE_MARK {
+            return REFUSED;
+        }
+        n = node[1];
+    }
+    if n == s.pool as u64 && nodes + words[4] == n { nodes } else { REFUSED }
+}
+
+/// As `bench_destroy`: the tree read, then its page ids listed and its nodes freed, children first.
+#[inline(never)]
+pub fn destroy(words: &mut [u64], pages: &mut [u64]) -> u64 {
+    let nodes = survey::<true>(words, false);
+    if nodes == REFUSED {
+        return REFUSED;
+    }
+    let (capacity, pool, root) = (words[0] as usize, words[1], words[2]);
+    let size = 4 + 2 * capacity;
+    let mut stack = vec![(root, 0usize)];
+    let mut place = 0;
+    while let Some(top) = stack.last_mut() {
+        let (n, index) = *top;
+        let at = 8 + n as usize * size;
+        if words[at] != 0 && index < words[at + 1] as usize {
+            top.1 = index + 1;
+            stack.push((words[at + 5 + 2 * index], 0));
+            continue;
+        }
+        if words[at] == 0 {
+            for i in 0..words[at + 1] as usize {
+                let Some(page) = pages.get_mut(place) else { return REFUSED };
+                *page = words[at + 5 + 2 * i];
+                place += 1;
+            }
+        }
+        stack.pop();
+    }
+    let mut stack = vec![(root, 0usize)];
+    while let Some(top) = stack.last_mut() {
+        let (n, index) = *top;
+        let at = 8 + n as usize * size;
+        if words[at] != 0 && index < words[at + 1] as usize {
+            top.1 = index + 1;
+            stack.push((words[at + 5 + 2 * index], 0));
+            continue;
+        }
+        words[at] = FREE_MARK;
+        words[at + 1] = words[3];
+        words[3] = n;
+        words[4] += 1;
+        stack.pop();
+    }
+    words[2] = pool;
     nodes
 }

@@ -1,5 +1,6 @@
 //! Stores in memory, with the words that appends would leave.
 
+pub const FREE_MARK: u64 = u32::MAX as u64;
 pub const NONE: u64 = u64::MAX;
 pub const ROW_LIMIT: u64 = 1 << 62;
 pub const MAX_HEIGHT: u64 = 31;
