@@ -2,7 +2,6 @@
 
 ghost use mathlib.Core.Path.{_≡_};
 ghost use mathlib.Core.Bool.{true};
-ghost use lib.Dec.{eqb};
 ghost use Prim.Native.Nat.{ℕ, _+_, _-_, _≤_, _<_};
 ghost use Rattle.model.specs.Words.{row};
 ghost use Rattle.model.specs.Tree.{emptyRoot, endSound, nodeAt, pairsFrom, rising, rootSound, sound};
@@ -87,45 +86,6 @@ pub fn rises(l: Layout, s: &[u64], n: NodeNo, count: u64) -> bool
     true
 }
 
-// Whether child numbers i to i + 3 of node n are below the pool.
-pub fn four_in(l: Layout, s: &[u64], n: NodeNo, i: u64) -> bool
-    requires { ⌜ Fits l (now s) ⌝ }
-    requires { ⌜ (n .0 < l .pool) × (i + 3 < l .capacity) ⌝ }
-    ensures { λ r. ⌜ r ≡ eqb (firstOut (l .capacity) (l .pool) (now (s .entry)) (n .0) i 4) (i + 4) ⌝ }
-{
-    if l.pool <= l.child(s, n, i).0 {
-        return false;
-    }
-    if l.pool <= l.child(s, n, i + 1).0 {
-        return false;
-    }
-    if l.pool <= l.child(s, n, i + 2).0 {
-        return false;
-    }
-    l.child(s, n, i + 3).0 < l.pool
-}
-
-// Whether child numbers i to i + 15 of node n are below the pool.
-pub fn sixteen_in(l: Layout, s: &[u64], n: NodeNo, i: u64) -> bool
-    requires { ⌜ Fits l (now s) ⌝ }
-    requires { ⌜ (n .0 < l .pool) × (i + 15 < l .capacity) ⌝ }
-    ensures { λ r. ⌜ r ≡ eqb (firstOut (l .capacity) (l .pool) (now (s .entry)) (n .0) i 16) (i + 16) ⌝ }
-{
-    let a = four_in(l, s, n, i);
-    if !a {
-        return false;
-    }
-    let b = four_in(l, s, n, i + 4);
-    if !b {
-        return false;
-    }
-    let c = four_in(l, s, n, i + 8);
-    if !c {
-        return false;
-    }
-    four_in(l, s, n, i + 12)
-}
-
 // The first of the child numbers of node n that is not below the pool; the count where all are.
 pub fn first_out(l: Layout, s: &[u64], n: NodeNo, count: u64) -> u64
     requires { ⌜ Fits l (now s) ⌝ }
@@ -133,20 +93,6 @@ pub fn first_out(l: Layout, s: &[u64], n: NodeNo, count: u64) -> u64
     ensures { λ r. ⌜ r ≡ firstOut (l .capacity) (l .pool) (now (s .entry)) (n .0) 0 count ⌝ }
 {
     let mut i: u64 = 0;
-    while i + 15 < count {
-        let all = sixteen_in(l, s, n, i);
-        if !all {
-            break;
-        }
-        i += 16;
-    }
-    while i + 3 < count {
-        let all = four_in(l, s, n, i);
-        if !all {
-            break;
-        }
-        i += 4;
-    }
     while i < count {
         if l.pool <= l.child(s, n, i).0 {
             return i;
