@@ -1,0 +1,234 @@
+// The page ids of a prefix against the leaves, read one after the other until the list is used.
+
+ghost use mathlib.Core.Path.{_≡_};
+ghost use mathlib.Core.List.{[], _∷_};
+ghost use mathlib.Core.Bool.{true, false};
+ghost use Prim.Native.Nat.{suc, _+_, _-_, _≤_, _<_};
+ghost use lib.Dec.{eqb};
+ghost use lib.ListN.{drop, length};
+ghost use Rattle.model.specs.Words.{count, height, pick, start};
+ghost use Rattle.model.specs.Tree.{Open, level, nodeAt};
+ghost use Rattle.model.specs.Reading.{passes, visits};
+ghost use Rattle.model.specs.Prune.{entryEnd, on, ranOut, scan, scanLeaf};
+ghost use Rattle.model.specs.Paths.{entered};
+ghost use Rattle.node.specs.Layout.{Fits};
+ghost use Rattle.walk.specs.Left.{Valid, rest};
+ghost use Rattle.walk.specs.Turn.{outOf};
+ghost use Rattle.prefix.specs.Behind.{Last, Passed};
+ghost use Rattle.prefix.specs.Named.{Ending, EndsAt, namedOf, progressOf};
+use model::answer::Refusal;
+use model::id::NodeNo;
+use model::id::RowID;
+use model::path::Path;
+use model::path::Position;
+use node::layout::Layout;
+use node::test::Limit;
+use walk::turn;
+use walk::turn::Entered;
+
+// The ids named so far and where the last entry of them ends; or why the list is refused.
+pub enum Progress {
+    On(usize, RowID),
+    Stopped(Refusal),
+}
+
+// How many entries the list names, all of them ending with the prefix; or why it is refused.
+pub enum Named {
+    Entries(u64),
+    Refused(Refusal),
+}
+
+// What the list names, the path to the leaf of the last entry named, and how many entries of that leaf are named. On the
+// path each position but the last stands at the entry after the one that leads down.
+pub struct Prefix {
+    pub answer: Named,
+    pub path: Path,
+    pub used: u64,
+}
+
+// The end of entry i of leaf n.
+fn entry_end(l: Layout, s: &[u64], n: NodeNo, i: u64) -> RowID
+    requires { ⌜ Fits l (now s) ⌝ }
+    requires { ⌜ (n .0 < l .pool) × (i < count (l .capacity) (now s) (n .0)) × (count (l .capacity) (now s) (n .0) ≤ l .capacity) ⌝ }
+    ensures { λ r. ⌜ r .0 ≡ entryEnd (l .capacity) (now (s .entry)) (n .0) i ⌝ }
+{
+    let count = l.part(s, n, 1);
+    if i + 1 < count {
+        return l.row(s, n, i + 1);
+    }
+    RowID(l.part(s, n, 3))
+}
+
+// The entries of node n, where it is a leaf, against the ids from this place on.
+pub fn scan_node(
+    l: Layout,
+    s: &[u64],
+    n: NodeNo,
+    end: RowID,
+    ids: &[u64],
+    place: usize,
+    reached: RowID,
+) -> Progress
+    requires { ⌜ Fits l (now s) ⌝ }
+    requires { ⌜ (n .0 < l .pool) × (count (l .capacity) (now s) (n .0) ≤ l .capacity) ⌝ }
+    ensures { λ r. ⌜ progressOf (now (ids .entry)) r ≡ pick (eqb (height (l .capacity) (now (s .entry)) (n .0)) 0) (scanLeaf (l .capacity) (now (s .entry)) (end .0) (n .0) 0 (count (l .capacity) (now (s .entry)) (n .0)) (on (drop place (now (ids .entry))) place (reached .0))) (on (drop place (now (ids .entry))) place (reached .0)) ⌝ }
+{
+    let height = l.part(s, n, 0);
+    if height != 0 {
+        return Progress::On(place, reached);
+    }
+    let count = l.part(s, n, 1);
+    let mut at = place;
+    let mut to = reached;
+    let mut i: u64 = 0;
+    while i < count {
+        if ids.len() <= at {
+            return Progress::On(at, to);
+        }
+        let page = l.page(s, n, i);
+        if page.0 != ids[at] {
+            return Progress::Stopped(Refusal::PageDiffers(at as u64));
+        }
+        let next = entry_end(l, s, n, i);
+        if end.0 < next.0 {
+            return Progress::Stopped(Refusal::EndDiffers(at as u64));
+        }
+        at += 1;
+        to = next;
+        i += 1;
+    }
+    Progress::On(at, to)
+}
+
+// What a list comes to that is used.
+fn finish(end: RowID, named: usize, reached: RowID) -> Named
+    ensures answer { λ r. ⌜ namedOf (end .0) r ≡ ranOut (end .0) (on [] named (reached .0)) ⌝ }
+    ensures ends { λ r. ⌜ EndsAt (end .0) (reached .0) r ⌝ }
+{
+    if reached.0 != end.0 {
+        return Named::Refused(Refusal::EndDiffers(named as u64));
+    }
+    Named::Entries(named as u64)
+}
+
+// The leaves below a node that was entered, against the ids from this place on. The path is stored to in place.
+pub fn scan_below(
+    l: Layout,
+    s: &[u64],
+    root: NodeNo,
+    first: u64,
+    end: RowID,
+    ids: &[u64],
+    place: usize,
+    reached: RowID,
+    used: u64,
+) -> Prefix
+    requires { ⌜ Fits l (now s) ⌝ }
+    requires { ⌜ Valid (l .capacity) (l .pool) (now s) (height (l .capacity) (now s) (root .0)) (entered (root .0) ∷ []) ⌝ }
+    requires { ⌜ first ≡ outOf (l .capacity) (l .pool) (now s) (height (l .capacity) (now s) (root .0)) (root .0) ⌝ }
+    requires { ⌜ (Passed (l .capacity) (l .pool) (now s) (height (l .capacity) (now s) (root .0)) (root .0) []) × (length (now ids) ≤ place → Last (l .capacity) (now s) (root .0) used (reached .0)) ⌝ }
+    ensures answer { λ r. ⌜ namedOf (end .0) (r .answer) ≡ ranOut (end .0) (scan (l .capacity) (now (s .entry)) (end .0) (rest false (l .capacity) (l .pool) (now (s .entry)) (height (l .capacity) (now (s .entry)) (root .0)) (entered (root .0) ∷ [])) (on (drop place (now (ids .entry))) place (reached .0))) ⌝ }
+    ensures edge { λ r. ⌜ Ending (l .capacity) (l .pool) (now (s .entry)) (end .0) (root .0) r ⌝ }
+{
+    let mut path = Path {
+        positions: [Position {
+            node: root,
+            index: 0,
+        }; 32],
+        depth: 1,
+    };
+    let mut nexts = [Limit::Open; 32];
+    let mut firsts = [first; 32];
+    let mut named = place;
+    let mut to = reached;
+    let mut last = used;
+    while 0 < path.depth {
+        if ids.len() <= named {
+            let answer = finish(end, named, to);
+            return Prefix {
+                answer,
+                path,
+                used: last,
+            };
+        }
+        let depth = path.depth;
+        let at = depth - 1;
+        let top = path.positions[at];
+        let node = top.node;
+        let index = top.index;
+        let more = turn::has_child(l, s, node, index);
+        if !more {
+            path.depth = at;
+        } else {
+            let out = firsts[at];
+            if out <= index {
+                return Prefix {
+                    answer: Named::Refused(Refusal::Unsound(node)),
+                    path,
+                    used: last,
+                };
+            }
+            let next = nexts[at];
+            match turn::enter(l, s, false, node, index, next) {
+                Entered::Bad(n) => {
+                    return Prefix {
+                        answer: Named::Refused(Refusal::Unsound(n)),
+                        path,
+                        used: last,
+                    };
+                }
+                Entered::Child(child, beyond, inner) => {
+                    path.positions[at] = Position {
+                        node,
+                        index: index + 1,
+                    };
+                    path.positions[depth] = Position {
+                        node: child,
+                        index: 0,
+                    };
+                    nexts[depth] = beyond;
+                    firsts[depth] = inner;
+                    path.depth = depth + 1;
+                    match scan_node(l, s, child, end, ids, named, to) {
+                        Progress::Stopped(r) => {
+                            return Prefix {
+                                answer: Named::Refused(r),
+                                path,
+                                used: last,
+                            };
+                        }
+                        Progress::On(p, c) => {
+                            last = (p - named) as u64;
+                            named = p;
+                            to = c;
+                        }
+                    }
+                }
+            }
+        }
+    }
+    Prefix {
+        answer: Named::Refused(Refusal::ListTooLong(named as u64)),
+        path,
+        used: last,
+    }
+}
+
+// The leaves from a root that passed its test, with the first of its child numbers out of range.
+pub fn scan_tree(l: Layout, s: &[u64], root: NodeNo, first: u64, end: RowID, ids: &[u64]) -> Prefix
+    requires { ⌜ Fits l (now s) ⌝ }
+    requires { ⌜ (root .0 < l .pool) × (height (l .capacity) (now s) (root .0) ≤ 31) × (passes false (l .capacity) (height (l .capacity) (now s) (root .0)) (nodeAt (l .capacity) (now s) (root .0)) (start (l .capacity) (now s) (root .0)) Open ≡ true) ⌝ }
+    requires { ⌜ first ≡ outOf (l .capacity) (l .pool) (now s) (height (l .capacity) (now s) (root .0)) (root .0) ⌝ }
+    requires { ⌜ 0 < length (now ids) ⌝ }
+    ensures answer { λ r. ⌜ namedOf (end .0) (r .answer) ≡ ranOut (end .0) (scan (l .capacity) (now (s .entry)) (end .0) (visits false (l .capacity) (l .pool) (suc (height (l .capacity) (now (s .entry)) (root .0))) (root .0) (level (l .capacity) (now (s .entry)) (suc (height (l .capacity) (now (s .entry)) (root .0))) (root .0)) (start (l .capacity) (now (s .entry)) (root .0)) Open) (on (now (ids .entry)) 0 0)) ⌝ }
+    ensures edge { λ r. ⌜ Ending (l .capacity) (l .pool) (now (s .entry)) (end .0) (root .0) r ⌝ }
+{
+    match scan_node(l, s, root, end, ids, 0, RowID(0)) {
+        Progress::Stopped(r) => Prefix {
+            answer: Named::Refused(r),
+            path: Path::new(),
+            used: 0,
+        },
+        Progress::On(p, c) => scan_below(l, s, root, first, end, ids, p, c, p as u64),
+    }
+}

@@ -1,0 +1,47 @@
+use borrow.Author.Needs.{needs}
+use Rattle.model.specs.Prune.{trimmed}
+use mathlib.Core.Path.{sym, ap, _∙_}
+use Rattle.trim.proofs.trim_node.Statement.{statement}
+use Rattle.trim.proofs.trim_node.Tie as tie
+
+part-requires : tie.Need-part-requires
+part-requires c κs = search needs
+
+sub-left : tie.Need-sub-left
+sub-left c = search needs
+
+move-front-requires : tie.Need-move-front-requires
+move-front-requires c κs = search needs
+
+put-requires : tie.Need-put-requires
+put-requires c κs = search needs
+
+put-requires-2 : tie.Need-put-requires-2
+put-requires-2 c κs = search needs
+
+row-place-requires : tie.Need-row-place-requires
+row-place-requires c κs = search needs
+
+put-requires-3 : tie.Need-put-requires-3
+put-requires-3 c κs = search needs
+
+same-length : tie.Need-same-length
+same-length c = search needs
+
+returns : tie.Need-returns
+unfolding trimmed
+returns c = rw (c .before .before .put3 .ensures, c .before .before .before .before .before .before .before .put2 .ensures, c .before .before .before .before .before .before .before .before .before .before .before .put .ensures, c .before .before .before .before .before .before .before .before .before .before .before .before .before .before .before .move-front .ensures, c .before .before .before .before .before .before .before .before .before .before .before .before .before .before .before .before .before .part .ensures, c .before .before .before .row-place .ensures)
+
+pub trim-node-spec : {M : Type 1} → statement M
+trim-node-spec =
+    tie.close
+    (tie.spec
+    part-requires
+    sub-left
+    move-front-requires
+    put-requires
+    put-requires-2
+    row-place-requires
+    put-requires-3
+    same-length
+    returns)

@@ -1,0 +1,88 @@
+// The writes of a prune to nodes that stay, and to the root.
+
+ghost use mathlib.Core.Path.{_≡_};
+ghost use mathlib.Core.List.{reverse};
+ghost use Prim.Native.Nat.{ℕ, _+_, _-_, _≤_, _<_};
+ghost use lib.ListN.{length};
+ghost use Rattle.model.specs.Words.{count, freeAll, freeCount};
+ghost use Rattle.model.specs.Prune.{copyAll, trimAll, trimmed};
+ghost use Rattle.node.specs.Layout.{Fits};
+ghost use Rattle.pool.specs.Write.{listed};
+ghost use Rattle.trim.specs.Picks.{AllIn, Ahead, Trims, lostAt, picks};
+use model::id::NodeNo;
+use model::id::RowID;
+use model::path::Path;
+use node::layout::Layout;
+use pool::chain;
+use pool::write;
+
+// Node n loses its first k entries; what is left starts at the end.
+pub fn trim_node(l: Layout, s: &mut [u64], n: NodeNo, k: u64, end: RowID)
+    requires { ⌜ Fits l (now s) ⌝ }
+    requires { ⌜ (n .0 < l .pool) × (k ≤ count (l .capacity) (now s) (n .0)) × (count (l .capacity) (now s) (n .0) ≤ l .capacity) ⌝ }
+    ensures { λ _. ⌜ now (s .exit) ≡ trimmed (l .capacity) (now (s .entry)) (n .0) k (end .0) ⌝ }
+{
+    let count = l.part(&s[..], n, 1);
+    let left = count - k;
+    write::move_front(l, s, n, k, left);
+    write::put(l, s, n, 1, left);
+    write::put(l, s, n, 2, end.0);
+    write::put(l, s, n, l.row_place(0), end.0);
+}
+
+// How many entries the node of position i loses: all but the last position stand after the entry that leads down.
+pub fn lost(depth: usize, i: usize, index: u64) -> u64
+    requires { ⌜ (1 ≤ index) × (i < depth) × (depth ≤ 32) ⌝ }
+    ensures { λ r. ⌜ r ≡ lostAt depth i index ⌝ }
+{
+    if i + 1 < depth {
+        return index - 1;
+    }
+    index
+}
+
+// The nodes of an edge, the top first.
+pub fn trim_all(l: Layout, s: &mut [u64], edge: Path, end: RowID)
+    requires { ⌜ Fits l (now s) ⌝ }
+    requires { ⌜ (edge .depth ≤ 32) × (length (edge .positions) ≡ 32) × Ahead edge × Trims (l .capacity) (l .pool) (now s) (picks (edge .positions) (edge .depth) 0 (edge .depth)) ⌝ }
+    ensures { λ _. ⌜ now (s .exit) ≡ trimAll (l .capacity) (now (s .entry)) (end .0) (picks (edge .positions) (edge .depth) 0 (edge .depth)) ⌝ }
+{
+    let depth = edge.depth;
+    let mut i: usize = 0;
+    while i < depth {
+        let p = edge.positions[i];
+        let node = p.node;
+        let index = p.index;
+        let k = lost(depth, i, index);
+        trim_node(l, s, node, k, end);
+        i += 1;
+    }
+}
+
+// Nodes copied into the root, one after the other.
+pub fn copy_all(l: Layout, s: &mut [u64], root: NodeNo, nodes: [NodeNo; 32], k: usize)
+    requires { ⌜ Fits l (now s) ⌝ }
+    requires { ⌜ (root .0 < l .pool) × (k ≤ 32) × AllIn (l .pool) nodes k ⌝ }
+    ensures { λ _. ⌜ now (s .exit) ≡ copyAll (l .capacity) (now (s .entry)) (root .0) (listed nodes 0 k) ⌝ }
+{
+    let mut i: usize = 0;
+    while i < k {
+        let n = nodes[i];
+        write::copy_node(l, s, n, root);
+        i += 1;
+    }
+}
+
+// The same nodes freed, the deepest first.
+pub fn free_copied(l: Layout, s: &mut [u64], nodes: [NodeNo; 32], k: usize)
+    requires { ⌜ Fits l (now s) ⌝ }
+    requires { ⌜ (k ≤ 32) × AllIn (l .pool) nodes k × (freeCount (now s) + k ≤ 65535) ⌝ }
+    ensures { λ _. ⌜ now (s .exit) ≡ freeAll (l .capacity) (now (s .entry)) (reverse (listed nodes 0 k)) ⌝ }
+{
+    let mut i = k;
+    while 0 < i {
+        i -= 1;
+        let n = nodes[i];
+        chain::free_node(l, s, n);
+    }
+}
