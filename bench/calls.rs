@@ -68,7 +68,7 @@ fn main() {
         2 => 65_535,
         _ => 2 * n / c + 64,
     };
-    let mut best = [f64::MAX; 8];
+    let mut best = [f64::MAX; 10];
     let mut keep = |i: usize, t: Instant, ops: u64| best[i] = best[i].min(t.elapsed().as_nanos() as f64 / ops as f64);
     let mut words = vec![0u64; (8 + nodes * (4 + 2 * c)) as usize];
     let mut held = 0;
@@ -105,8 +105,11 @@ fn main() {
         keep(3, t, held);
         assert!(held <= nodes);
         let t = Instant::now();
-        assert_eq!(black_box(plain::check(black_box(&words))), held);
+        assert_eq!(black_box(plain::check::<false>(black_box(&words))), held);
         keep(4, t, held);
+        let t = Instant::now();
+        assert_eq!(black_box(plain::check::<true>(black_box(&words))), held);
+        keep(8, t, held);
         let (mut row, mut leaves) = (0, 0);
         let t = Instant::now();
         while row < 10 * n {
@@ -117,8 +120,12 @@ fn main() {
         assert_eq!(row, 10 * n);
         let mut copy = words.clone();
         let t = Instant::now();
-        assert_eq!(plain::destroy(black_box(&mut copy), &mut others), held);
+        assert_eq!(plain::destroy::<false>(black_box(&mut copy), &mut others), held);
         keep(6, t, held);
+        copy.copy_from_slice(&words);
+        let t = Instant::now();
+        assert_eq!(plain::destroy::<true>(black_box(&mut copy), &mut others), held);
+        keep(9, t, held);
         let t = Instant::now();
         assert_eq!(rattle::destroy(black_box(&mut words), &mut pages), held);
         keep(7, t, held);
@@ -133,4 +140,6 @@ fn main() {
     println!("walk {:.1}", best[5]);
     println!("plain_release {:.1}", best[6]);
     println!("release {:.1}", best[7]);
+    println!("four_check {:.1}", best[8]);
+    println!("four_release {:.1}", best[9]);
 }

@@ -144,9 +144,9 @@ pub fn survey<const FOUR: bool>(words: &[u64], ends: bool) -> u64 {
 
 /// As `bench_check`: both readings of the tree, then the chain and the counts.
 #[inline(never)]
-pub fn check(words: &[u64]) -> u64 {
-    let nodes = survey::<true>(words, false);
-    if nodes == REFUSED || survey::<true>(words, true) == REFUSED {
+pub fn check<const FOUR: bool>(words: &[u64]) -> u64 {
+    let nodes = survey::<FOUR>(words, false);
+    if nodes == REFUSED || survey::<FOUR>(words, true) == REFUSED {
         return REFUSED;
     }
     let Some(s) = open(words) else { return REFUSED };
@@ -166,8 +166,8 @@ pub fn check(words: &[u64]) -> u64 {
 
 /// As `bench_destroy`: the tree read, then its page ids listed and its nodes freed, children first.
 #[inline(never)]
-pub fn destroy(words: &mut [u64], pages: &mut [u64]) -> u64 {
-    let nodes = survey::<true>(words, false);
+pub fn destroy<const FOUR: bool>(words: &mut [u64], pages: &mut [u64]) -> u64 {
+    let nodes = survey::<FOUR>(words, false);
     if nodes == REFUSED {
         return REFUSED;
     }
