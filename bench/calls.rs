@@ -45,19 +45,21 @@ mod rattle {
     }
 }
 
-/// Only reading: the wrapping sum of the words of the nodes on the path to a row.
+/// Only reading: the wrapping sum of the words in use of the nodes on the path to a row.
 fn read_path(w: &[u64], row: u64) -> u64 {
     let c = w[0] as usize;
     let (mut n, mut sum) = (w[2] as usize, 0u64);
     loop {
         let at = 8 + n * (4 + 2 * c);
         let node = &w[at..at + 4 + 2 * c];
-        sum = node.iter().fold(sum, |a, b| a.wrapping_add(*b));
+        let used = &node[..4 + 2 * node[1] as usize];
+        sum = used.iter().fold(sum, |a, b| a.wrapping_add(*b));
         if node[0] == 0 {
             return sum;
         }
         let pairs = node[4..4 + 2 * node[1] as usize].chunks_exact(2);
-        n = pairs.take_while(|p| p[0] <= row).last().map_or(0, |p| p[1] as usize);
+        let place = pairs.len() - pairs.rev().position(|p| p[0] <= row).unwrap_or(0);
+        n = node[3 + 2 * place] as usize;
     }
 }
 
