@@ -10,13 +10,13 @@ use Rattle.model.proofs.Words.{header-at}
 use Rattle.model.proofs.Writes.{free-all-keeps, free-all-length, copied-length}
 use Rattle.trim.specs.Picks.{Trims}
 use Rattle.trim.proofs.Turns.{trims-next}
-use Rattle.reap.proofs.Order.{Untouched}
+use Rattle.reap.specs.Spine.{Untouched}
 
 module _ (C P : ℕ) where
   pub freed-header : (w l : List ℕ) → Header C P w → Header C P (freeAll C w l)
   freed-header w l hd = header-at C P w (freeAll C w l) hd (free-all-length C w l)
 
-  pub freed-trims : (w l : List ℕ) (ts : List (ℕ × ℕ)) → Untouched C l ts → Trims C P w ts → Trims C P (freeAll C w l) ts
+  pub freed-trims : (w l : List ℕ) (ts : List (ℕ × ℕ)) → Untouched l ts → Trims C P w ts → Trims C P (freeAll C w l) ts
   unfolding Untouched Trims
   freed-trims w l [] u t = tt
   freed-trims w l (x ∷ ts) u t =

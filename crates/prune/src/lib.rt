@@ -1,27 +1,3 @@
 // The prune of a checkpointed prefix.
 
-ghost use mathlib.Core.Path.{_≡_};
-ghost use mathlib.Core.List.{_++_, reverse};
-ghost use Prim.Native.Nat.{ℕ, _+_, _-_, _≤_, _<_};
-ghost use Rattle.model.specs.Words.{freeAll};
-ghost use Rattle.model.specs.Prune.{copyAll, trimAll};
-ghost use Rattle.pool.specs.Write.{listed};
-ghost use Rattle.trim.specs.Picks.{picks};
-ghost use Rattle.reap.specs.Spine.{goneOf};
-ghost use Rattle.prune.specs.Writable.{Writable};
-use model::id::NodeNo;
-use model::id::RowID;
-use model::path::Path;
-use node::layout::Layout;
-
-// What goes is freed first: the numbers of the children that go are lost when their node is trimmed. No freed node is
-// trimmed, copied or the root, so the words are those of 01's order.
-pub fn write_edge(l: Layout, s: &mut [u64], root: NodeNo, end: RowID, edge: Path, nodes: [NodeNo; 32], k: usize)
-    requires { ⌜ Writable (l .capacity) (l .pool) (now s) (root .0) edge nodes k ⌝ }
-    ensures { λ _. ⌜ now (s .exit) ≡ freeAll (l .capacity) (copyAll (l .capacity) (trimAll (l .capacity) (now (s .entry)) (end .0) (picks (edge .positions) (edge .depth) 0 (edge .depth))) (root .0) (listed nodes 0 k)) (goneOf (l .capacity) (now (s .entry)) (picks (edge .positions) (edge .depth) 0 (edge .depth)) ++ reverse (listed nodes 0 k)) ⌝ }
-{
-    reap::free_gone(l, s, edge);
-    trim::trim_all(l, s, edge, end);
-    trim::copy_all(l, s, root, nodes, k);
-    trim::free_copied(l, s, nodes, k);
-}
+pub mod write;

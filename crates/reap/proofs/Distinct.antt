@@ -13,7 +13,7 @@ use Rattle.model.specs.Reading.{occ, inPairs, nodes}
 use Rattle.model.proofs.Tests.{by-test}
 use Rattle.model.proofs.Frame.{occ-append, occ-nil}
 use Rattle.model.proofs.Once.{Held, held-pairs, lower}
-use Rattle.reap.specs.Spine.{pairsAt, nodesAt, Beside, Spine, goneOf}
+use Rattle.reap.specs.Spine.{pairsAt, nodesAt, Beside, Spine, goneOf, Untouched}
 use Rattle.reap.proofs.Right.{right-of}
 use Rattle.model.specs.Paths.{lastOf, above}
 use Rattle.model.specs.declared.path.Position.{Position}
@@ -22,7 +22,6 @@ use Rattle.prefix.specs.Behind.{Done, Above, Behind}
 use Rattle.edge.specs.Edge.{Meets, trimsUp, Climbed}
 use Rattle.trim.specs.Picks.{picks}
 use Rattle.reap.proofs.Joined.{beside, spine-up, top-height, edge-picks}
-use Rattle.reap.proofs.Order.{Untouched}
 
 module _ (C P : ℕ) (w : List ℕ) where
   gone-parts : (m : ℕ) (t : ℕ × ℕ) (ts : List (ℕ × ℕ)) → occ m (goneOf C w (t ∷ ts)) ≡ occ m (nodesAt C w (height C w (t .0)) (t .0) 0 (t .1)) + occ m (goneOf C w ts)
@@ -74,13 +73,13 @@ module _ (C P : ℕ) (w : List ℕ) where
   spine-from x h t [] s l = (l, tt)
   spine-from x h t (u ∷ ts) s l = (l, spine-from x (h - 1) u ts (s .after) (omega (arith, l, rises-to h t u ts s)))
 
-  more-untouched : (x : ℕ) (l₁ l₂ : List ℕ) (ts : List (ℕ × ℕ)) → ((m : ℕ) → x ≤ start C w m → occ m l₁ ≡ 0) → From x ts → Untouched C l₂ ts → Untouched C (l₁ ++ l₂) ts
+  more-untouched : (x : ℕ) (l₁ l₂ : List ℕ) (ts : List (ℕ × ℕ)) → ((m : ℕ) → x ≤ start C w m → occ m l₁ ≡ 0) → From x ts → Untouched l₂ ts → Untouched (l₁ ++ l₂) ts
   unfolding From Untouched
   more-untouched x l₁ l₂ [] f a u = tt
   more-untouched x l₁ l₂ (t ∷ ts) f a u = (omega (arith, occ-append (t .0) l₁ l₂, f (t .0) (a .0), u .0), more-untouched x l₁ l₂ ts f (a .1) (u .1))
 
   -- the law: no node of an edge goes
-  pub edge-untouched : (h : ℕ) (ts : List (ℕ × ℕ)) → Spine C P w h ts → Untouched C (goneOf C w ts) ts
+  pub edge-untouched : (h : ℕ) (ts : List (ℕ × ℕ)) → Spine C P w h ts → Untouched (goneOf C w ts) ts
   unfolding Spine Untouched goneOf
   edge-untouched h [] s = tt
   edge-untouched h (t ∷ []) s = (spine-lower (t .0) h (t ∷ []) s (omega (arith, s .high)), tt)

@@ -14,6 +14,7 @@ use Rattle.model.proofs.Frame.{Same}
 use Rattle.model.proofs.Writes.{freed-keeps, not-first, not-rest}
 use Rattle.trim.specs.Picks.{Trims}
 use Rattle.trim.proofs.Turns.{trims-next}
+use Rattle.reap.specs.Spine.{Outside, Untouched}
 use Rattle.reap.proofs.Children.{free-append}
 
 module _ (C n : ℕ) where
@@ -82,15 +83,6 @@ module _ (C : ℕ) where
   unfolding freeAll
   emptied-after [] w b e z = refl
   emptied-after (n ∷ l) w b e z = emptied-after l (freed C w n) b e (not-rest b n l z) ∙ ap (λ (v : List ℕ). freeAll C v l) (free-emptied C n w b e (not-first b n l z))
-
-  -- none of these nodes, or of these trimmed nodes, is in l
-  unfoldable pub Outside : List ℕ → List ℕ → Type 0
-  Outside l [] = Unit {0}
-  Outside l (m ∷ ms) = (occ m l ≡ 0) × Outside l ms
-
-  unfoldable pub Untouched : List ℕ → List (ℕ × ℕ) → Type 0
-  Untouched l [] = Unit {0}
-  Untouched l (t ∷ ts) = (occ (t .0) l ≡ 0) × Untouched l ts
 
   trims-after : (P : ℕ) (l : List ℕ) (w : List ℕ) (e : ℕ) (ts : List (ℕ × ℕ)) → Header C P w → Trims C P w ts → Untouched l ts → trimAll C (freeAll C w l) e ts ≡ freeAll C (trimAll C w e ts) l
   unfolding Trims Untouched trimAll

@@ -5,7 +5,7 @@ use mathlib.Core.Path.{_≡_}
 use lib.ListN.{length}
 use Rattle.model.specs.Words.{freeCount, part, height, count, start, row, Header}
 use Rattle.model.specs.Tree.{Limit, Below, Level, pairsFrom, level, allPairs, AllSound}
-use Rattle.model.specs.Reading.{inPairs, nodes}
+use Rattle.model.specs.Reading.{inPairs, nodes, occ}
 
 -- k pairs of node n of height h from entry i on, and the nodes below them in postorder
 abbrev pub pairsAt : (C : ℕ) (w : List ℕ) (h n i k : ℕ) → List (ℕ × Level h)
@@ -61,3 +61,12 @@ pub record Reaping (C P : ℕ) (w : List ℕ) (T : List (ℕ × ℕ)) : Type 0 w
   pub tall : ℕ
   pub spine : Spine C P w tall T
   pub room : freeCount w + length (goneOf C w T) ≤ 65535
+
+-- none of these nodes, or of these trimmed nodes, is in l
+unfoldable pub Outside : List ℕ → List ℕ → Type 0
+Outside l [] = Unit {0}
+Outside l (m ∷ ms) = (occ m l ≡ 0) × Outside l ms
+
+unfoldable pub Untouched : List ℕ → List (ℕ × ℕ) → Type 0
+Untouched l [] = Unit {0}
+Untouched l (t ∷ ts) = (occ (t .0) l ≡ 0) × Untouched l ts
