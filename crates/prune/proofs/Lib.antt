@@ -1,3 +1,4 @@
 pub mod Outside
 pub mod Written
 pub mod Edges
+pub mod Outcomes
