@@ -27,6 +27,10 @@ use Rattle.trim.specs.Picks.{AllIn, picks}
 use Rattle.reap.specs.Spine.{Reaping, Spine, Outside, Untouched}
 use Rattle.reap.proofs.Joined.{edge-picks, edge-ahead, edge-gone, edge-spine, edge-trims}
 use Rattle.reap.proofs.Distinct.{edge-untouched, edge-right, edge-ends}
+use Rattle.copies.specs.Copied.{copiesWith, copiesOf}
+use Rattle.copies.specs.declared.Copies as Copied
+use Rattle.copies.specs.declared.CopyTest.{CopyTest}
+use Rattle.copies.specs.declared.CopyTest.the-variants.{Unsound, Sound}
 use Rattle.prune.specs.Found.{Rooted, trimsOf, leftOf, AllGo, SomeStay, resetTo, cutTo}
 use Rattle.prune.specs.Writable.{Resettable, Writable}
 use Rattle.prune.proofs.Outside.{copies-outside}
@@ -112,7 +116,15 @@ module _ (C P : ℕ) (w : List ℕ) (e root f : ℕ) (edge : Path) (R : Rooted C
             let y : cutPairs e (cut h e) (tree .pairs) ≡ s .first ∷ s .others = s .left in
             rw (y, z, y, g, trims-are)
 
-    pub writable : (nodes : List NodeNo) (k : ℕ) → k ≤ 31 → AllIn P nodes k → copies (listed nodes 0 k) ≡ copiesFrom C P h e tree (start C w root) → freeCount w + (length G + k) ≤ P → Writable C P w root edge nodes k
+    -- the nodes to be copied, as they were found
+    module _ (r : Copied.Copies) (are : (x : ℕ) → trims (suc h) x tree (start C w root) ≡ T → copiesOf r ≡ copiesFrom C P h x tree (start C w root)) where
+      pub found-unsound : (n : NodeNo) → r .answer ≡ Unsound n → copiesFrom C P h e tree (start C w root) ≡ unsound (n .0)
+      found-unsound n q = sym (are e trims-are) ∙ ap (λ (t : CopyTest). copiesWith t (listed (r .nodes) 0 (r .count))) q
+
+      pub found-sound : r .answer ≡ Sound → copiesFrom C P h e tree (start C w root) ≡ copies (listed (r .nodes) 0 (r .count))
+      found-sound q = sym (are e trims-are) ∙ ap (λ (t : CopyTest). copiesWith t (listed (r .nodes) 0 (r .count))) q
+
+    pub writable : (nodes : List NodeNo) (k : ℕ) → k ≤ 31 → AllIn P nodes k → copiesFrom C P h e tree (start C w root) ≡ copies (listed nodes 0 k) → freeCount w + (length G + k) ≤ P → Writable C P w root edge nodes k
     unfolding level
     writable nodes k l a q r =
         let s = edge-ends C P w e root edge (E .climbed) (R .low) m in
@@ -123,6 +135,6 @@ module _ (C P : ℕ) (w : List ℕ) (e root f : ℕ) (edge : Path) (R : Rooted C
           found = a;
           stays = untouched;
           copies-stay = copies-outside C P w e G (λ n z. edge-right C P w n e (s .0) T (s .1) (s .2) z) h root
-              (sound-at (level C w h) C w h root (start C w root) Open ∙ R .good) (subst (Untouched G) (sym trims-are) untouched) (listed nodes 0 k) (sym q);
+              (sound-at (level C w h) C w h root (start C w root) Open ∙ R .good) (subst (Untouched G) (sym trims-are) untouched) (listed nodes 0 k) q;
           room = omega (arith, R .header .pool-high);
         }

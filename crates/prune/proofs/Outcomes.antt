@@ -1,7 +1,7 @@
 -- The outcomes at an edge, by the last test.
-use Prim.Native.Nat.{ℕ, _+_, _-_, _<_, _≤_}
+use Prim.Native.Nat.{ℕ, zero, suc, _+_, _-_, _<_, _≤_}
 use mathlib.Core.List.{List, [], _∷_, _++_, reverse}
-use mathlib.Core.Path.{_≡_, refl}
+use mathlib.Core.Path.{_≡_, refl, ap}
 use native.Mathlib.Omega.{arith}
 use lib.ListN.{length}
 use lib.Dec.{leb}
@@ -9,7 +9,14 @@ use borrow.Author.Tests.{le-leb, lt-leb}
 use Rattle.model.specs.Words.{pick, freeCount, freeAll, emptied}
 use Rattle.model.specs.Refusals.{result, refused, damaged, Outcome}
 use Rattle.model.specs.Prune.{Copies, unsound, copies, trimAll, copyAll}
+use Rattle.model.specs.declared.id.NodeNo.{NodeNo}
+use Rattle.pool.specs.Write.{listed}
 use Rattle.prune.specs.Found.{resetTo, cutTo}
+
+pub length-listed : (l : List NodeNo) (i k : ℕ) → length (listed l i k) ≡ k
+unfolding listed
+length-listed l i zero = refl
+length-listed l i (suc k) = ap suc (length-listed l (i + 1) k)
 
 module _ (C P : ℕ) (w : List ℕ) (n e k : ℕ) (G : List ℕ) where
   pub reset-full : P < freeCount w + length G → resetTo C P w n e k G ≡ record { answer = damaged; words = w }
@@ -25,12 +32,13 @@ module _ (C P : ℕ) (w : List ℕ) (n e k : ℕ) (G : List ℕ) where
     unfolding cutTo
     cut-unsound m = refl
 
-    module _ (ns : List ℕ) where
-      pub cut-full : P < freeCount w + (length G + length ns) → cutTo C P w n e k T G (copies ns) ≡ record { answer = damaged; words = w }
+    -- j nodes are copied
+    module _ (l : List NodeNo) (j : ℕ) where
+      pub cut-full : P < freeCount w + (length G + j) → cutTo C P w n e k T G (copies (listed l 0 j)) ≡ record { answer = damaged; words = w }
       unfolding cutTo
-      cut-full l = rw (lt-leb (freeCount w + (length G + length ns)) P l)
+      cut-full q = rw (length-listed l 0 j, lt-leb (freeCount w + (length G + j)) P q)
 
-      pub cut-done : freeCount w + (length G + length ns) ≤ P
-          → cutTo C P w n e k T G (copies ns) ≡ record { answer = result (k ∷ (length G + length ns) ∷ length ns ∷ []); words = freeAll C (copyAll C (trimAll C w e T) n ns) (G ++ reverse ns) }
+      pub cut-done : freeCount w + (length G + j) ≤ P
+          → cutTo C P w n e k T G (copies (listed l 0 j)) ≡ record { answer = result (k ∷ (length G + j) ∷ j ∷ []); words = freeAll C (copyAll C (trimAll C w e T) n (listed l 0 j)) (G ++ reverse (listed l 0 j)) }
       unfolding cutTo
-      cut-done l = rw (le-leb (freeCount w + (length G + length ns)) P l)
+      cut-done q = rw (length-listed l 0 j, le-leb (freeCount w + (length G + j)) P q)
