@@ -73,10 +73,10 @@ module _ (C P : ℕ) (w : List ℕ) (e root f : ℕ) (edge : Path) (R : Rooted C
       let n = lastOf edge .node .0 in
       let q = top-node C P w root (height C w n) n (edge .positions) (edge .depth - 1) (E .climbed .cutting .behind .above) in
       by-depth (edge .depth - 1) refl q
-      where
-        by-depth : (d : ℕ) → edge .depth - 1 ≡ d → (d ≡ 0 → lastOf edge .node .0 ≡ root) × (0 < d → getD (edge .positions) 0 noPosition .node .0 ≡ root) → getD (edge .positions) 0 noPosition .node .0 ≡ root
-        by-depth zero z q = ap (λ (i : ℕ). getD (edge .positions) i noPosition .node .0) (sym z) ∙ q .0 refl
-        by-depth (suc d) z q = q .1 (omega arith)
+    where
+      by-depth : (d : ℕ) → edge .depth - 1 ≡ d → (d ≡ 0 → lastOf edge .node .0 ≡ root) × (0 < d → getD (edge .positions) 0 noPosition .node .0 ≡ root) → getD (edge .positions) 0 noPosition .node .0 ≡ root
+      by-depth zero z q = ap (λ (i : ℕ). getD (edge .positions) i noPosition .node .0) (sym z) ∙ q .0 refl
+      by-depth (suc d) z q = q .1 (omega arith)
 
   pub resettable : freeCount w + length G ≤ P → Resettable C P w root edge
   resettable l =

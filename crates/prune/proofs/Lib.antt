@@ -2,3 +2,4 @@ pub mod Outside
 pub mod Written
 pub mod Edges
 pub mod Outcomes
+pub mod Deciding

@@ -63,18 +63,19 @@ module _ (C P : ℕ) (w : List ℕ) (e : ℕ) (G : List ℕ) (right : (m : ℕ) 
       let r = row C w n c in
       by-test (eqb (kept (suc h) e (level C w (suc (suc h)) n) (start C w n)) 1)
       (λ k. let k₁ = eqb-true (kept (suc h) e (level C w (suc (suc h)) n) (start C w n)) 1 k in
-        let f = first-row (suc h) n s in
-        let z : count C w n ≡ suc c = omega (arith, f .0) in
-        let q₂ = sym (one C P w e h n c z k₁) ∙ q in
-        let u₂ = subst (Untouched G) (trims-child C P w e h n c z (f .1) k₁) (untouched-others C G (trims (suc (suc h)) e (level C w (suc (suc h)) n) (start C w n)) u) in
-        by-test (ltb kid P)
-        (λ i. by-test (sound C h (level C w (suc h) kid) r Open)
-          (λ g. by-copies (copiesFrom C P h e (level C w (suc h) kid) r) kid ns (rw (i, g) at q₂)
-            (λ ms x y. let b = begins-at h kid r g in
-              subst (Outside G) y
-              (not-gone h kid r g u₂,
-                copies-outside h kid (subst (λ (v : ℕ). sound C h (level C w (suc h) kid) v Open ≡ true) (sym b) g) (subst (λ (v : ℕ). Untouched G (trims (suc h) e (level C w (suc h) kid) v)) (sym b) u₂) ms
-                (ap (copiesFrom C P h e (level C w (suc h) kid)) b ∙ x))))
-          (λ g. not-unsound kid ns (rw (i, g) at q₂)))
-        (λ i. not-unsound n ns (rw i at q₂)))
+      let f = first-row (suc h) n s in
+      let z : count C w n ≡ suc c = omega (arith, f .0) in
+      let q₂ = sym (one C P w e h n c z k₁) ∙ q in
+      let u₂ = subst (Untouched G) (trims-child C P w e h n c z (f .1) k₁) (untouched-others C G (trims (suc (suc h)) e (level C w (suc (suc h)) n) (start C w n)) u) in
+      by-test (ltb kid P)
+      (λ i. by-test (sound C h (level C w (suc h) kid) r Open)
+      (λ g. by-copies (copiesFrom C P h e (level C w (suc h) kid) r) kid ns (rw (i, g) at q₂)
+      (λ ms x y. let b = begins-at h kid r g in
+      subst (Outside G) y (
+        not-gone h kid r g u₂,
+        copies-outside h kid (subst (λ (v : ℕ). sound C h (level C w (suc h) kid) v Open ≡ true) (sym b) g) (subst (λ (v : ℕ). Untouched G (trims (suc h) e (level C w (suc h) kid) v)) (sym b) u₂) ms
+            (ap (copiesFrom C P h e (level C w (suc h) kid)) b ∙ x),
+      )))
+      (λ g. not-unsound kid ns (rw (i, g) at q₂)))
+      (λ i. not-unsound n ns (rw i at q₂)))
       (λ k. subst (Outside G) (copies-are [] ns (sym (many C P w e h n (eqb-false (kept (suc h) e (level C w (suc (suc h)) n) (start C w n)) 1 k)) ∙ q)) tt)

@@ -4,18 +4,26 @@ use mathlib.Core.List.{List, [], _∷_, _++_, reverse}
 use mathlib.Core.Bool.{true}
 use mathlib.Core.Path.{_≡_}
 use lib.ListN.{length}
-use lib.Dec.{leb}
+use lib.Dec.{leb, eqb}
 use Rattle.model.specs.Words.{pick, freeCount, freeAll, emptied, part, height, count, start, Header}
-use Rattle.model.specs.Tree.{Open, nodeAt, sound}
-use Rattle.model.specs.Refusals.{result, refused, damaged, Outcome}
-use Rattle.model.specs.Prune.{Copies, unsound, copies, trimAll, copyAll}
+use Rattle.model.specs.Tree.{Open, nodeAt, sound, emptyRoot, rootSound}
+use Rattle.model.specs.Reading.{rootTree}
+use Rattle.model.specs.Refusals.{Answer, result, refused, damaged, Outcome}
+use Rattle.model.specs.Prune.{Copies, unsound, copies, trimAll, copyAll, rootCopies, pruneWith, pruneRoot}
 use Rattle.model.specs.Paths.{lastOf}
 use Rattle.model.specs.declared.path.Path.{Path}
 use Rattle.edge.specs.Edge.{Edged}
 use Rattle.trim.specs.Picks.{picks}
 use Rattle.reap.specs.Spine.{goneOf}
 
--- a root that passed its test, in a store of which f nodes are free
+-- an open store with root n, of which f nodes are free
+pub record InStore (C P : ℕ) (w : List ℕ) (n f : ℕ) : Type 0 where
+  pub header : Header C P w
+  pub inside : n < P
+  pub free : f ≡ freeCount w
+  pub free-in : f ≤ P
+
+-- a root that passed its test
 pub record Rooted (C P : ℕ) (w : List ℕ) (root f : ℕ) : Type 0 where
   pub header : Header C P w
   pub inside : root < P
@@ -51,3 +59,15 @@ cutTo C P w n e k T G (copies ns) =
     let f = length G + length ns in
     let done : Outcome = record { answer = result (k ∷ f ∷ length ns ∷ []); words = freeAll C (copyAll C (trimAll C w e T) n ns) (G ++ reverse ns) } in
     pick (leb (freeCount w + f) P) done (record { answer = damaged; words = w })
+
+-- k entries go, the last of which ends at e
+abbrev pub cutAt : ℕ → ℕ → List ℕ → ℕ → ℕ → ℕ → Outcome
+cutAt C P w n e k = let h = height C w n in pruneWith C P w n h e (rootTree C w n) k (rootCopies C P h e (rootTree C w n))
+
+-- what is asked of an open store after 7: "root 2, 8, then leaf by leaf"
+unfoldable pub pruneAt : ℕ → ℕ → List ℕ → ℕ → ℕ → ℕ → List ℕ → Outcome
+pruneAt C P w n s e ids =
+    let refuse : Answer → Outcome = λ a. record { answer = a; words = w } in
+    let leaves = pick (emptyRoot C w n) (refuse (refused 11 0)) (pruneRoot C P w n (height C w n) e ids (rootTree C w n)) in
+    let eight = pick (eqb s (start C w n)) leaves (refuse (refused 8 (start C w n))) in
+    pick (rootSound C w n) eight (refuse (refused 2 n))

@@ -63,8 +63,8 @@ module _ (C P : ℕ) (w : List ℕ) (g n i k : ℕ) (d : Ready C P w (suc g) n i
   unfolding pairsFrom Held
   each m =
       let o = once-pairs C P w m (suc g) (near-held C P w m (suc g))
-            (λ x r₂ b₂ hx. subst (λ (y : Level (suc g)). occ m (nodes (suc g) y) ≤ 1) (sym (hx .1 .1)) (once C P w m (suc g) (hx .1 .0) r₂ b₂ (subst (λ (y : Level (suc g)). AllSound C P (suc g) y r₂ b₂) (hx .1 .1) (hx .0))))
-            (row C w n i) (d .bound) (pairsAt C w (suc g) n i (suc k)) (begins (level C w (suc g) (child C w n i)) (pairsAt C w (suc g) n (i + 1) k)) (held-pairs C P w (suc g) n i (suc k) (d .bound) (d .good)) in
+      (λ x r₂ b₂ hx. subst (λ (y : Level (suc g)). occ m (nodes (suc g) y) ≤ 1) (sym (hx .1 .1)) (once C P w m (suc g) (hx .1 .0) r₂ b₂ (subst (λ (y : Level (suc g)). AllSound C P (suc g) y r₂ b₂) (hx .1 .1) (hx .0))))
+      (row C w n i) (d .bound) (pairsAt C w (suc g) n i (suc k)) (begins (level C w (suc g) (child C w n i)) (pairsAt C w (suc g) n (i + 1) k)) (held-pairs C P w (suc g) n i (suc k) (d .bound) (d .good)) in
       omega (arith, o, ap (occ m) split, occ-append m ns (nodesAt C w (suc g) n (i + 1) k))
 
   apart : occ n ns ≡ 0
@@ -79,8 +79,8 @@ module _ (C P : ℕ) (w : List ℕ) (g n i k : ℕ) (d : Ready C P w (suc g) n i
       let v = freeAll C w ns in
       same-pairs C w v n (free-all-keeps C w ns n apart) (level C w (suc g)) (level C v (suc g)) (i + 1) k (omega (arith, d .few))
       (λ j x y. let q = all-child C w (level C w (suc g)) n (AllSound C P (suc g)) (i + 1) k (d .bound) others j x y in
-        kept C w v (suc g) (child C w n j) (sound-narrow C P (suc g) (level C w (suc g) (child C w n j)) (row C w n j) (q .0) (q .1))
-        (λ m p. free-all-keeps C w ns m (omega (arith, p, each m, occ-child C w (level C w (suc g)) n (nodes (suc g)) m (i + 1) k j x y))))
+      kept C w v (suc g) (child C w n j) (sound-narrow C P (suc g) (level C w (suc g) (child C w n j)) (row C w n j) (q .0) (q .1))
+      (λ m p. free-all-keeps C w ns m (omega (arith, p, each m, occ-child C w (level C w (suc g)) n (nodes (suc g)) m (i + 1) k j x y))))
 
   long : length (nodesAt C w (suc g) n i (suc k)) ≡ length ns + length (nodesAt C w (suc g) n (i + 1) k)
   long = ap (λ (l : List ℕ). length l) split ∙ length-append ns (nodesAt C w (suc g) n (i + 1) k)
@@ -109,7 +109,9 @@ module _ (C P : ℕ) (w : List ℕ) (g n i k : ℕ) (d : Ready C P w (suc g) n i
           few = omega (arith, d .few);
           bound = d .bound;
           good = subst (λ (ks : List (ℕ × Level (suc g))). allPairs (AllSound C P (suc g)) ks (d .bound)) pairs-same others;
-          room = omega (arith, d .room, long, counted, ap (λ (ks : List (ℕ × Level (suc g))). length (inPairs (nodes (suc g)) ks)) pairs-same) } }
+          room = omega (arith, d .room, long, counted, ap (λ (ks : List (ℕ × Level (suc g))). length (inPairs (nodes (suc g)) ks)) pairs-same);
+        };
+      }
 
   -- the law
   pub child-freed : (x : ℕ) → freeCount w + x ≡ 65535 → Freed C P w g n i k (freeAll C w (take x (rootNodes C w (child C w n i))))

@@ -66,8 +66,10 @@ module _ (C P : ℕ) (w : List ℕ) (all c : ℕ) (p : Path) (g : Counting C P w
               once-each = λ m. (let o = subst (λ (vs : List Visit). occ m (lefts vs) ≤ 1) one (f .once-each m) in omega (arith, o, occ-cons m (lastOf p .node .0) (lefts (left false C P w (popped p)))));
               room = f .room;
               long = f .long;
-              told = f .told };
-            told = more }
+              told = f .told;
+            };
+            told = more;
+          }
 
       pub less-out : length (left false C P w (popped p)) < length (left false C P w p)
       less-out = rw one (omega arith)
@@ -114,19 +116,20 @@ module _ (C P : ℕ) (w : List ℕ) (hd : Header C P w) (free : freeCount w ≤ 
       let o = own C P w g c (row C w n i) (q .0) (q .1) in
       let r = sub-ready C P w g c (row C w n i) (q .0) 0 hd (q .1) (omega (arith, b .low)) (omega arith) in
       let s : AllSound C P (suc (height C w c)) (rootTree C w c) (start C w c) Open =
-          subst (λ (h : ℕ). AllSound C P (suc h) (level C w (suc h) c) (start C w c) Open) (sym (o .0)) (subst (λ (x : ℕ). AllSound C P (suc g) (level C w (suc g) c) x Open) (sym (o .1)) (open-sound C P (suc g) (level C w (suc g) c) (row C w n i) (q .0) (q .1))) in
+      subst (λ (h : ℕ). AllSound C P (suc h) (level C w (suc h) c) (start C w c) Open) (sym (o .0)) (subst (λ (x : ℕ). AllSound C P (suc g) (level C w (suc g) c) x Open) (sym (o .1)) (open-sound C P (suc g) (level C w (suc g) c) (row C w n i) (q .0) (q .1))) in
       let z : i + 1 ≡ suc i = omega arith in
       record {
         ready = r;
         good = s;
         few = omega (arith, root-few-nodes C P w (height C w c) c (r .inside) (soundTree (r .high) s), hd .pool-high);
         adds =
-          ap (λ (j : ℕ). length (nodesAt C w (suc g) n 0 j)) z
-          ∙ ap (λ (ps : List (ℕ × Level (suc g))). length (inPairs (nodes (suc g)) ps)) (pairs-snoc C w (level C w (suc g)) n 0 i)
-          ∙ ap (λ (ns : List ℕ). length ns) (in-last (nodes (suc g)) (pairsAt C w (suc g) n 0 i) (row C w n (0 + i)) (level C w (suc g) (child C w n (0 + i))))
-          ∙ length-append (nodesAt C w (suc g) n 0 i) (nodes (suc g) (level C w (suc g) (child C w n (0 + i))))
-          ∙ ap (λ (j : ℕ). length (nodesAt C w (suc g) n 0 i) + length (nodes (suc g) (level C w (suc g) (child C w n j)))) (zero-add i)
-          ∙ ap (λ (j : ℕ). length (nodesAt C w (suc g) n 0 i) + length (nodes (suc j) (level C w (suc j) c))) (sym (o .0)) }
+            ap (λ (j : ℕ). length (nodesAt C w (suc g) n 0 j)) z
+            ∙ ap (λ (ps : List (ℕ × Level (suc g))). length (inPairs (nodes (suc g)) ps)) (pairs-snoc C w (level C w (suc g)) n 0 i)
+            ∙ ap (λ (ns : List ℕ). length ns) (in-last (nodes (suc g)) (pairsAt C w (suc g) n 0 i) (row C w n (0 + i)) (level C w (suc g) (child C w n (0 + i))))
+            ∙ length-append (nodesAt C w (suc g) n 0 i) (nodes (suc g) (level C w (suc g) (child C w n (0 + i))))
+            ∙ ap (λ (j : ℕ). length (nodesAt C w (suc g) n 0 i) + length (nodes (suc g) (level C w (suc g) (child C w n j)))) (zero-add i)
+            ∙ ap (λ (j : ℕ). length (nodesAt C w (suc g) n 0 i) + length (nodes (suc j) (level C w (suc j) c))) (sym (o .0));
+      }
 
   pub child-of : (h : ℕ) → 0 < h → Beside C P w h n k → (i : ℕ) → i < k → Child C P w h n i
   child-of zero t b i l = absurd (omega arith)

@@ -35,7 +35,7 @@ module _ (C P : ℕ) (w : List ℕ) where
     pairs-lower h (k ∷ ps) b a p =
         by-test (ltb 0 (occ m (nodes h (k .1))))
         (λ t. let x = a .0 in
-          subst (λ (y : Level h). 0 < occ m (nodes h y) → height C w m < h) (sym (x .1 .1)) (lower C P w m h (x .1 .0) (k .0) (next ps b) (subst (λ (y : Level h). AllSound C P h y (k .0) (next ps b)) (x .1 .1) (x .0))) (ltb-true 0 (occ m (nodes h (k .1))) t))
+        subst (λ (y : Level h). 0 < occ m (nodes h y) → height C w m < h) (sym (x .1 .1)) (lower C P w m h (x .1 .0) (k .0) (next ps b) (subst (λ (y : Level h). AllSound C P h y (k .0) (next ps b)) (x .1 .1) (x .0))) (ltb-true 0 (occ m (nodes h (k .1))) t))
         (λ t. pairs-lower h ps b (a .1) (omega (arith, p, ltb-false 0 (occ m (nodes h (k .1))) t, occ-append m (nodes h (k .1)) (inPairs (nodes h) ps))))
 
     -- a node at least as high as n is none below it
@@ -86,10 +86,11 @@ module _ (C P : ℕ) (w : List ℕ) where
   edge-untouched h (t ∷ u ∷ ts) s =
       let b = s .own in
       let x = row C w (t .0) (t .1) in
-      let a : allPairs (AllSound C P h) (pairsAt C w h (t .0) 0 (t .1)) (Below x) = subst (λ (y : Limit). allPairs (AllSound C P h) (pairsAt C w h (t .0) 0 (t .1)) y) (s .ends) (b .good) in
-      (spine-lower (t .0) h (t ∷ u ∷ ts) s (omega (arith, b .high)),
+      let a : allPairs (AllSound C P h) (pairsAt C w h (t .0) 0 (t .1)) (Below x) = subst (λ (y : Limit). allPairs (AllSound C P h) (pairsAt C w h (t .0) 0 (t .1)) y) (s .ends) (b .good) in (
+        spine-lower (t .0) h (t ∷ u ∷ ts) s (omega (arith, b .high)),
         more-untouched x (nodesAt C w (height C w (t .0)) (t .0) 0 (t .1)) (goneOf C w (u ∷ ts)) (u ∷ ts) (λ m l. beside-right m h (t .0) (t .1) x b a l)
-        (spine-from x (h - 1) u ts (s .after) (omega (arith, s .begins))) (edge-untouched (h - 1) (u ∷ ts) (s .after)))
+            (spine-from x (h - 1) u ts (s .after) (omega (arith, s .begins))) (edge-untouched (h - 1) (u ∷ ts) (s .after)),
+      )
 
   -- where all starts are below e and the last entry that goes ends at e, a node that starts at e or later does not go
   unfoldable pub EndsBy : ℕ → ℕ → List (ℕ × ℕ) → Type 0

@@ -86,7 +86,8 @@ module _ (C P : ℕ) (w : List ℕ) where
         ends = refl;
         keeps = i;
         begins = a .begins;
-        after = subst (λ (x : ℕ). Spine C P w x ((n, k) ∷ T)) (sym z) s }
+        after = subst (λ (x : ℕ). Spine C P w x ((n, k) ∷ T)) (sym z) s;
+      }
 
   pub top-height : (root h n : ℕ) (up : List Position) → Passed C P w h n up → Above C P w root h n up → height C w root ≡ h + length up
   unfolding Above
@@ -171,7 +172,8 @@ module _ (C P : ℕ) (w : List ℕ) where
         keeps = s .keeps;
         narrow = s .own .narrow;
         apart = apart (t .0) (h - 1) u ts (s .after) (omega (arith, s .up, s .own .high));
-        after = spine-trims (h - 1) (u ∷ ts) (s .after) k }
+        after = spine-trims (h - 1) (u ∷ ts) (s .after) k;
+      }
 
   keeps-last : (ts : List (ℕ × ℕ)) (t : ℕ × ℕ) → t .1 < count C w (t .0) → Keeps (ts ++ (t ∷ []))
   unfolding Keeps
@@ -184,7 +186,7 @@ module _ (C P : ℕ) (w : List ℕ) where
       let s = edge-spine C P w e root p c l in
       let d = p .depth - 1 in
       let z : picks (p .positions) (p .depth) 0 (p .depth) ≡ ups (p .positions) 0 d ++ ((lastOf p .node .0, lastOf p .index) ∷ []) =
-          let x : p .depth ≡ suc d = omega (arith, c .deep) in
-          ap (picks (p .positions) (p .depth) 0) x ∙ picks-ups (p .positions) (p .depth) 0 d (omega (arith, c .deep))
-          ∙ ap (λ (j : ℕ). ups (p .positions) 0 d ++ ((getD (p .positions) j noPosition .node .0, getD (p .positions) j noPosition .index) ∷ [])) (zero-add d) in
+      let x : p .depth ≡ suc d = omega (arith, c .deep) in
+      ap (picks (p .positions) (p .depth) 0) x ∙ picks-ups (p .positions) (p .depth) 0 d (omega (arith, c .deep))
+      ∙ ap (λ (j : ℕ). ups (p .positions) 0 d ++ ((getD (p .positions) j noPosition .node .0, getD (p .positions) j noPosition .index) ∷ [])) (zero-add d) in
       spine-trims (s .0) (picks (p .positions) (p .depth) 0 (p .depth)) (s .1) (subst Keeps (sym z) (keeps-last (ups (p .positions) 0 d) (lastOf p .node .0, lastOf p .index) m))

@@ -31,7 +31,7 @@ module _ (C n : ℕ) where
       let h4 : word (set w p x) 4 ≡ word w 4 = getD-set-other w p 4 x 0 (omega arith) in
       rw (h3, h4, set-comm w p a x freeMark q, set-comm (set w a freeMark) p b x (word w 3) r)
       (ap (λ (v : List ℕ). set v 4 (word w 4 + 1)) (set-comm (set (set w a freeMark) b (word w 3)) p 3 x n (omega arith))
-        ∙ set-comm (set (set (set w a freeMark) b (word w 3)) 3 n) p 4 x (word w 4 + 1) (omega arith))
+      ∙ set-comm (set (set (set w a freeMark) b (word w 3)) 3 n) p 4 x (word w 4 + 1) (omega arith))
 
   free-moved : (w : List ℕ) (m k i c : ℕ) → m ≢ n → k + i + c ≤ C → moved C (freed C w n) m k i c ≡ freed C (moved C w m k i c) n
   unfolding moved

@@ -34,8 +34,8 @@ module _ (C P : ℕ) (w : List ℕ) (m : ℕ) where
   pairs-low g r (k ∷ k₂ ∷ ps) a p =
       by-test (ltb 0 (occ m (nodes g (k .1))))
       (λ t. let u : start C w m < k₂ .0 = near-held C P w m g (k .1) (k .0) (Below (k₂ .0)) (a .0) (ltb-true 0 (occ m (nodes g (k .1))) t) .1 in
-        let v : k₂ .0 < r = chain (Held C P w g) (held-under g) k₂ ps (Below r) (a .1) in
-        omega (arith, u, v))
+      let v : k₂ .0 < r = chain (Held C P w g) (held-under g) k₂ ps (Below r) (a .1) in
+      omega (arith, u, v))
       (λ t. pairs-low g r (k₂ ∷ ps) (a .1) (omega (arith, p, ltb-false 0 (occ m (nodes g (k .1))) t, occ-append m (nodes g (k .1)) (inPairs (nodes g) (k₂ ∷ ps)))))
 
   -- the law: a node that starts at r or later is none of those on the left, and stays
@@ -52,9 +52,9 @@ module _ (C P : ℕ) (w v : List ℕ) (cap : 1 ≤ C) (x : ℕ) (same : (m : ℕ
   pairs-stay h n k b l =
       same-pairs C w v n (same n l) (level C w h) (level C v h) 0 k (omega (arith, b .within, b .narrow))
       (λ j y z. let q = all-child C w (level C w h) n (AllSound C P h) 0 k (b .bound) (b .good) j y z in
-        let r : row C w n 0 ≤ row C w n j = by-test (ltb 0 j) (λ t. omega (arith, b .rise 0 j (ltb-true 0 j t) (omega (arith, b .within)))) (λ t. let e : j ≡ 0 = omega (arith, ltb-false 0 j t) in omega (arith, ap (row C w n) e)) in
-        kept C w v h (child C w n j) (sound-narrow C P h (level C w h (child C w n j)) (row C w n j) (q .0) (q .1))
-        (λ m p. same m (omega (arith, l, b .first, r, near-held C P w m h (level C w h (child C w n j)) (row C w n j) (q .0) (q .1, (child C w n j, refl)) p .0))))
+      let r : row C w n 0 ≤ row C w n j = by-test (ltb 0 j) (λ t. omega (arith, b .rise 0 j (ltb-true 0 j t) (omega (arith, b .within)))) (λ t. let e : j ≡ 0 = omega (arith, ltb-false 0 j t) in omega (arith, ap (row C w n) e)) in
+      kept C w v h (child C w n j) (sound-narrow C P h (level C w h (child C w n j)) (row C w n j) (q .0) (q .1))
+      (λ m p. same m (omega (arith, l, b .first, r, near-held C P w m h (level C w h (child C w n j)) (row C w n j) (q .0) (q .1, (child C w n j, refl)) p .0))))
 
   row-stays : (h n k j : ℕ) → Beside C P w h n k → x ≤ start C w n → j < count C w n → row C w n j ≡ row C v n j
   row-stays h n k j b l i = same n l (rowPlace C j) (omega (arith, b .narrow))
@@ -72,7 +72,8 @@ module _ (C P : ℕ) (w v : List ℕ) (cap : 1 ≤ C) (x : ℕ) (same : (m : ℕ
         first = sym (s 2 (omega arith)) ∙ b .first ∙ s (rowPlace C 0) (omega (arith, cap));
         rise = λ a d y z. (let z₂ : d < count C w n = omega (arith, c) in omega (arith, b .rise a d y z₂, row-stays h n k a b l (omega arith), row-stays h n k d b l z₂));
         bound = b .bound;
-        good = subst (λ (ps : List (ℕ × Level h)). allPairs (AllSound C P h) ps (b .bound)) (pairs-stay h n k b l) (b .good) }
+        good = subst (λ (ps : List (ℕ × Level h)). allPairs (AllSound C P h) ps (b .bound)) (pairs-stay h n k b l) (b .good);
+      }
 
   nodes-stay : (h n k : ℕ) → Beside C P w h n k → x ≤ start C w n → nodesAt C w (height C w n) n 0 k ≡ nodesAt C v (height C v n) n 0 k
   nodes-stay h n k b l =
@@ -87,15 +88,17 @@ module _ (C P : ℕ) (w v : List ℕ) (cap : 1 ≤ C) (x : ℕ) (same : (m : ℕ
       let r = row-stays h (t .0) (t .1) (t .1) b l (s .keeps) in
       let up : row C w (t .0) 0 ≤ row C w (t .0) (t .1) = by-test (ltb 0 (t .1)) (λ y. omega (arith, b .rise 0 (t .1) (ltb-true 0 (t .1) y) (s .keeps))) (λ y. let e : t .1 ≡ 0 = omega (arith, ltb-false 0 (t .1) y) in omega (arith, ap (row C w (t .0)) e)) in
       let l₂ : x ≤ start C w (u .0) = omega (arith, l, b .first, up, s .begins) in
-      let q = spine-stays (h - 1) u ts (s .after) l₂ in
-      (record {
-        up = s .up;
-        own = beside-stays h (t .0) (t .1) b l;
-        ends = s .ends ∙ ap Below r;
-        keeps = omega (arith, s .keeps, same (t .0) l 1 (omega arith));
-        begins = sym (same (u .0) l₂ 2 (omega arith)) ∙ s .begins ∙ r;
-        after = q .0 },
-        ap (λ (ns : List ℕ). ns ++ goneOf C w (u ∷ ts)) (nodes-stay h (t .0) (t .1) b l) ∙ ap (λ (ns : List ℕ). nodesAt C v (height C v (t .0)) (t .0) 0 (t .1) ++ ns) (q .1))
+      let q = spine-stays (h - 1) u ts (s .after) l₂ in (
+        record {
+          up = s .up;
+          own = beside-stays h (t .0) (t .1) b l;
+          ends = s .ends ∙ ap Below r;
+          keeps = omega (arith, s .keeps, same (t .0) l 1 (omega arith));
+          begins = sym (same (u .0) l₂ 2 (omega arith)) ∙ s .begins ∙ r;
+          after = q .0;
+        },
+        ap (λ (ns : List ℕ). ns ++ goneOf C w (u ∷ ts)) (nodes-stay h (t .0) (t .1) b l) ∙ ap (λ (ns : List ℕ). nodesAt C v (height C v (t .0)) (t .0) 0 (t .1) ++ ns) (q .1),
+      )
 
 -- One node of an edge ----------------------------------------------------------------------------------------
 module _ (C P : ℕ) (w : List ℕ) (n k : ℕ) (T : List (ℕ × ℕ)) (g : Reaping C P w ((n, k) ∷ T)) where
@@ -112,9 +115,15 @@ module _ (C P : ℕ) (w : List ℕ) (n k : ℕ) (T : List (ℕ × ℕ)) (g : Rea
   children-ready =
       let b = own-of (g .tall) T (g .spine) in
       record {
-        header = g .header; inside = b .inside; high = refl; low = omega (arith, b .low, b .high); few = omega (arith, b .within, b .narrow); bound = b .bound;
+        header = g .header;
+        inside = b .inside;
+        high = refl;
+        low = omega (arith, b .low, b .high);
+        few = omega (arith, b .within, b .narrow);
+        bound = b .bound;
         good = subst (λ (h : ℕ). allPairs (AllSound C P h) (pairsAt C w h n 0 k) (b .bound)) (sym (b .high)) (b .good);
-        room = omega (arith, g .room, parts) }
+        room = omega (arith, g .room, parts);
+      }
 
   abbrev v : List ℕ
   v = freeAll C w (nodesAt C w (height C w n) n 0 k)
@@ -133,10 +142,12 @@ module _ (C P : ℕ) (w : List ℕ) (n k : ℕ) (T : List (ℕ × ℕ)) (g : Rea
   pub reaped : (freeAll C w (goneOf C w ((n, k) ∷ T)) ≡ freeAll C v (goneOf C v T)) × Reaping C P v T
   unfolding goneOf
   reaped =
-      let q = after (g .tall) T (g .spine) in
-      (free-append C w (nodesAt C w (height C w n) n 0 k) (goneOf C w T) ∙ ap (freeAll C v) (q .1),
+      let q = after (g .tall) T (g .spine) in (
+        free-append C w (nodesAt C w (height C w n) n 0 k) (goneOf C w T) ∙ ap (freeAll C v) (q .1),
         record {
           header = header-at C P w v (g .header) (free-all-length C w (nodesAt C w (height C w n) n 0 k));
           tall = g .tall - 1;
           spine = q .0;
-          room = omega (arith, g .room, parts, free-all-count C P w (nodesAt C w (height C w n) n 0 k) (g .header), ap (λ (l : List ℕ). length l) (q .1)) })
+          room = omega (arith, g .room, parts, free-all-count C P w (nodesAt C w (height C w n) n 0 k) (g .header), ap (λ (l : List ℕ). length l) (q .1));
+        },
+      )

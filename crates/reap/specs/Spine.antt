@@ -48,7 +48,8 @@ Spine C P w h (t ∷ u ∷ ts) =
       ends : own .bound ≡ Below (row C w (t .0) (t .1));
       keeps : t .1 < count C w (t .0);
       begins : start C w (u .0) ≡ row C w (t .0) (t .1);
-      after : Spine C P w (h - 1) (u ∷ ts) }
+      after : Spine C P w (h - 1) (u ∷ ts);
+    }
 
 -- the nodes that go
 unfoldable pub goneOf : ℕ → List ℕ → List (ℕ × ℕ) → List ℕ

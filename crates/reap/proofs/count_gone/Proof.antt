@@ -49,9 +49,12 @@ loop-less c = search needs
 loop-again : tie.Need-loop-again Inv-loop μ-loop
 loop-again c = let a = c .before .before .before .before .before .before .before .args in
     let some = rw (c .before .lost .ensures) at (c .count-children .ensures .0) in
-    let b = beside-here (a .l .capacity) (a .l .pool) (a .s .now) (getD (a .t3 .positions) (c .before .before .before .before .before .loop .i) noPosition .node .0) (lostAt (a .t3 .depth) (c .before .before .before .before .before .loop .i) (getD (a .t3 .positions) (c .before .before .before .before .before .loop .i) noPosition .index)) (picks (a .t3 .positions) (a .t3 .depth) (c .before .before .before .before .before .loop .i + 1) (a .t3 .depth - (c .before .before .before .before .before .loop .i + 1))) (c .before .before .before .before .before .loop .inv .2 .0) (subst (Spine (a .l .capacity) (a .l .pool) (a .s .now) (c .before .before .before .before .before .loop .inv .2 .0)) (pick-turn (a .t3 .positions) (a .t3 .depth) (c .before .before .before .before .before .loop .i) (c .before .before .before .before .loop-test .taken)) (c .before .before .before .before .before .loop .inv .2 .1)) in
-    (omega (arith, c .before .before .before .before .loop-test .taken), omega (arith, c .before .before .before .before .before .loop .inv .1, c .count-children .ensures .1, c .before .lost .ensures, b .within, b .narrow, c .before .before .before .before .before .before .before .pre .0 .cap-high), spine-after (a .l .capacity) (a .l .pool) (a .s .now) (getD (a .t3 .positions) (c .before .before .before .before .before .loop .i) noPosition .node .0) (lostAt (a .t3 .depth) (c .before .before .before .before .before .loop .i) (getD (a .t3 .positions) (c .before .before .before .before .before .loop .i) noPosition .index)) (picks (a .t3 .positions) (a .t3 .depth) (c .before .before .before .before .before .loop .i + 1) (a .t3 .depth - (c .before .before .before .before .before .loop .i + 1))) (c .before .before .before .before .before .loop .inv .2 .0) (subst (Spine (a .l .capacity) (a .l .pool) (a .s .now) (c .before .before .before .before .before .loop .inv .2 .0)) (pick-turn (a .t3 .positions) (a .t3 .depth) (c .before .before .before .before .before .loop .i) (c .before .before .before .before .loop-test .taken)) (c .before .before .before .before .before .loop .inv .2 .1)),
-      omega (arith, c .before .before .before .before .before .loop .inv .3, some, gone-length (a .l .capacity) (a .l .pool) (a .s .now) (getD (a .t3 .positions) (c .before .before .before .before .before .loop .i) noPosition .node .0) (lostAt (a .t3 .depth) (c .before .before .before .before .before .loop .i) (getD (a .t3 .positions) (c .before .before .before .before .before .loop .i) noPosition .index)) (picks (a .t3 .positions) (a .t3 .depth) (c .before .before .before .before .before .loop .i + 1) (a .t3 .depth - (c .before .before .before .before .before .loop .i + 1))) (c .before .before .before .before .before .loop .inv .2 .0) (subst (Spine (a .l .capacity) (a .l .pool) (a .s .now) (c .before .before .before .before .before .loop .inv .2 .0)) (pick-turn (a .t3 .positions) (a .t3 .depth) (c .before .before .before .before .before .loop .i) (c .before .before .before .before .loop-test .taken)) (c .before .before .before .before .before .loop .inv .2 .1)), ap (λ (ts : List (ℕ × ℕ)). length (goneOf (a .l .capacity) (a .s .now) ts)) (pick-turn (a .t3 .positions) (a .t3 .depth) (c .before .before .before .before .before .loop .i) (c .before .before .before .before .loop-test .taken))))
+    let b = beside-here (a .l .capacity) (a .l .pool) (a .s .now) (getD (a .t3 .positions) (c .before .before .before .before .before .loop .i) noPosition .node .0) (lostAt (a .t3 .depth) (c .before .before .before .before .before .loop .i) (getD (a .t3 .positions) (c .before .before .before .before .before .loop .i) noPosition .index)) (picks (a .t3 .positions) (a .t3 .depth) (c .before .before .before .before .before .loop .i + 1) (a .t3 .depth - (c .before .before .before .before .before .loop .i + 1))) (c .before .before .before .before .before .loop .inv .2 .0) (subst (Spine (a .l .capacity) (a .l .pool) (a .s .now) (c .before .before .before .before .before .loop .inv .2 .0)) (pick-turn (a .t3 .positions) (a .t3 .depth) (c .before .before .before .before .before .loop .i) (c .before .before .before .before .loop-test .taken)) (c .before .before .before .before .before .loop .inv .2 .1)) in (
+      omega (arith, c .before .before .before .before .loop-test .taken),
+      omega (arith, c .before .before .before .before .before .loop .inv .1, c .count-children .ensures .1, c .before .lost .ensures, b .within, b .narrow, c .before .before .before .before .before .before .before .pre .0 .cap-high),
+      spine-after (a .l .capacity) (a .l .pool) (a .s .now) (getD (a .t3 .positions) (c .before .before .before .before .before .loop .i) noPosition .node .0) (lostAt (a .t3 .depth) (c .before .before .before .before .before .loop .i) (getD (a .t3 .positions) (c .before .before .before .before .before .loop .i) noPosition .index)) (picks (a .t3 .positions) (a .t3 .depth) (c .before .before .before .before .before .loop .i + 1) (a .t3 .depth - (c .before .before .before .before .before .loop .i + 1))) (c .before .before .before .before .before .loop .inv .2 .0) (subst (Spine (a .l .capacity) (a .l .pool) (a .s .now) (c .before .before .before .before .before .loop .inv .2 .0)) (pick-turn (a .t3 .positions) (a .t3 .depth) (c .before .before .before .before .before .loop .i) (c .before .before .before .before .loop-test .taken)) (c .before .before .before .before .before .loop .inv .2 .1)),
+      omega (arith, c .before .before .before .before .before .loop .inv .3, some, gone-length (a .l .capacity) (a .l .pool) (a .s .now) (getD (a .t3 .positions) (c .before .before .before .before .before .loop .i) noPosition .node .0) (lostAt (a .t3 .depth) (c .before .before .before .before .before .loop .i) (getD (a .t3 .positions) (c .before .before .before .before .before .loop .i) noPosition .index)) (picks (a .t3 .positions) (a .t3 .depth) (c .before .before .before .before .before .loop .i + 1) (a .t3 .depth - (c .before .before .before .before .before .loop .i + 1))) (c .before .before .before .before .before .loop .inv .2 .0) (subst (Spine (a .l .capacity) (a .l .pool) (a .s .now) (c .before .before .before .before .before .loop .inv .2 .0)) (pick-turn (a .t3 .positions) (a .t3 .depth) (c .before .before .before .before .before .loop .i) (c .before .before .before .before .loop-test .taken)) (c .before .before .before .before .before .loop .inv .2 .1)), ap (λ (ts : List (ℕ × ℕ)). length (goneOf (a .l .capacity) (a .s .now) ts)) (pick-turn (a .t3 .positions) (a .t3 .depth) (c .before .before .before .before .before .loop .i) (c .before .before .before .before .loop-test .taken))),
+    )
 
 returns : tie.Need-returns Inv-loop μ-loop
 unfolding goneOf

@@ -29,9 +29,11 @@ returns c = let a = c .before .before .before .before .args in sym (ap (freeAll 
 
 loop-holds : tie.Need-loop-holds Inv-loop μ-loop
 loop-holds c =
-    let a = c .before .before .before .before .args in
-    (rw sub-zero,
-      rw (c .before .part .ensures, sub-zero) (c .before .before .before .before .pre), omega arith)
+    let a = c .before .before .before .before .args in (
+      rw sub-zero,
+      rw (c .before .part .ensures, sub-zero) (c .before .before .before .before .pre),
+      omega arith,
+    )
 
 child-requires : tie.Need-child-requires Inv-loop μ-loop
 child-requires c κs = (c .before .before .loop .inv .1 .header, (c .before .before .loop .inv .1 .inside, omega (arith, c .before .before .loop .inv .1 .few, c .before .loop-test .taken)))
@@ -56,10 +58,11 @@ loop-less c = search needs
 loop-again : tie.Need-loop-again Inv-loop μ-loop
 loop-again c =
     let a = c .before .before .before .before .before .before .before .before .before .before .before .before .before .args in
-    rw (c .before .before .free-first .ensures, c .before .before .before .before .before .child .ensures)
-    (c .before .before .before .before .before .before .before .before .loop .inv .0 ∙ turn-whole (a .l .capacity) (a .l .pool) (c .before .before .before .before .before .before .before .before .loop .s) _ (a .n .0) (c .before .before .before .before .before .before .before .before .loop .i) (a .k) (omega (arith, c .before .before .before .before .before .before .before .before .before .if1 .left)) (c .before .before .before .before .before .before .before .loop-test .taken) (c .before .before .before .before .before .before .before .before .loop .inv .1) (65535 - freeCount (c .before .before .before .before .before .before .before .before .loop .s)) (omega (arith, c .before .before .before .before .before .before .before .before .loop .inv .1 .room)),
+    rw (c .before .before .free-first .ensures, c .before .before .before .before .before .child .ensures) (
+      c .before .before .before .before .before .before .before .before .loop .inv .0 ∙ turn-whole (a .l .capacity) (a .l .pool) (c .before .before .before .before .before .before .before .before .loop .s) _ (a .n .0) (c .before .before .before .before .before .before .before .before .loop .i) (a .k) (omega (arith, c .before .before .before .before .before .before .before .before .before .if1 .left)) (c .before .before .before .before .before .before .before .loop-test .taken) (c .before .before .before .before .before .before .before .before .loop .inv .1) (65535 - freeCount (c .before .before .before .before .before .before .before .before .loop .s)) (omega (arith, c .before .before .before .before .before .before .before .before .loop .inv .1 .room)),
       turn-next (a .l .capacity) (a .l .pool) (c .before .before .before .before .before .before .before .before .loop .s) _ (a .n .0) (c .before .before .before .before .before .before .before .before .loop .i) (a .k) (omega (arith, c .before .before .before .before .before .before .before .before .before .if1 .left)) (c .before .before .before .before .before .before .before .loop-test .taken) (c .before .before .before .before .before .before .before .before .loop .inv .1) (65535 - freeCount (c .before .before .before .before .before .before .before .before .loop .s)) (omega (arith, c .before .before .before .before .before .before .before .before .loop .inv .1 .room)),
-      omega (arith, c .before .before .before .before .before .before .before .loop-test .taken))
+      omega (arith, c .before .before .before .before .before .before .before .loop-test .taken),
+    )
 
 same-length-2 : tie.Need-same-length-2 Inv-loop μ-loop
 same-length-2 c = c .before .loop .inv .1 .header .long ∙ sym (c .before .before .before .before .before .before .pre .header .long)

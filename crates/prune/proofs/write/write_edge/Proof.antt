@@ -34,9 +34,10 @@ free-copied-requires : tie.Need-free-copied-requires
 free-copied-requires c κs =
     let a = c .before .before .before .before .before .before .before .before .before .before .before .before .before .before .args in
     let d = c .before .before .before .before .before .before .before .before .before .before .before .before .before .before .pre in
-    rw (c .before .before .before .copy-all .ensures, c .before .before .before .before .before .before .before .trim-all .ensures, c .before .before .before .before .before .before .before .before .before .before .before .free-gone .ensures)
-    (copies-header (a .l .capacity) (a .l .pool) (trimAll (a .l .capacity) (freeAll (a .l .capacity) (a .s .now) (leftOf (a .l .capacity) (a .s .now) (a .edge))) (a .end .0) (trimsOf (a .edge))) (a .root .0) (listed (a .nodes) 0 (a .k)) (trims-header (a .l .capacity) (a .l .pool) (freeAll (a .l .capacity) (a .s .now) (leftOf (a .l .capacity) (a .s .now) (a .edge))) (a .end .0) (trimsOf (a .edge)) (freed-header (a .l .capacity) (a .l .pool) (a .s .now) (leftOf (a .l .capacity) (a .s .now) (a .edge)) (d .reset .reaping .header)) (freed-trims (a .l .capacity) (a .l .pool) (a .s .now) (leftOf (a .l .capacity) (a .s .now) (a .edge)) (trimsOf (a .edge)) (d .stays) (d .trims))),
-      (d .few, d .found, omega (arith, d .room, copies-word (a .l .capacity) (trimAll (a .l .capacity) (freeAll (a .l .capacity) (a .s .now) (leftOf (a .l .capacity) (a .s .now) (a .edge))) (a .end .0) (trimsOf (a .edge))) (a .root .0) (listed (a .nodes) 0 (a .k)) 4 (omega arith), trims-word (a .l .capacity) (freeAll (a .l .capacity) (a .s .now) (leftOf (a .l .capacity) (a .s .now) (a .edge))) (a .end .0) (trimsOf (a .edge)) 4 (omega arith), free-all-count (a .l .capacity) (a .l .pool) (a .s .now) (leftOf (a .l .capacity) (a .s .now) (a .edge)) (d .reset .reaping .header))))
+    rw (c .before .before .before .copy-all .ensures, c .before .before .before .before .before .before .before .trim-all .ensures, c .before .before .before .before .before .before .before .before .before .before .before .free-gone .ensures) (
+      copies-header (a .l .capacity) (a .l .pool) (trimAll (a .l .capacity) (freeAll (a .l .capacity) (a .s .now) (leftOf (a .l .capacity) (a .s .now) (a .edge))) (a .end .0) (trimsOf (a .edge))) (a .root .0) (listed (a .nodes) 0 (a .k)) (trims-header (a .l .capacity) (a .l .pool) (freeAll (a .l .capacity) (a .s .now) (leftOf (a .l .capacity) (a .s .now) (a .edge))) (a .end .0) (trimsOf (a .edge)) (freed-header (a .l .capacity) (a .l .pool) (a .s .now) (leftOf (a .l .capacity) (a .s .now) (a .edge)) (d .reset .reaping .header)) (freed-trims (a .l .capacity) (a .l .pool) (a .s .now) (leftOf (a .l .capacity) (a .s .now) (a .edge)) (trimsOf (a .edge)) (d .stays) (d .trims))),
+      (d .few, d .found, omega (arith, d .room, copies-word (a .l .capacity) (trimAll (a .l .capacity) (freeAll (a .l .capacity) (a .s .now) (leftOf (a .l .capacity) (a .s .now) (a .edge))) (a .end .0) (trimsOf (a .edge))) (a .root .0) (listed (a .nodes) 0 (a .k)) 4 (omega arith), trims-word (a .l .capacity) (freeAll (a .l .capacity) (a .s .now) (leftOf (a .l .capacity) (a .s .now) (a .edge))) (a .end .0) (trimsOf (a .edge)) 4 (omega arith), free-all-count (a .l .capacity) (a .l .pool) (a .s .now) (leftOf (a .l .capacity) (a .s .now) (a .edge)) (d .reset .reaping .header))),
+    )
 
 same-length : tie.Need-same-length
 same-length c = search needs
