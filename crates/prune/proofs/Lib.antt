@@ -3,3 +3,4 @@ pub mod Written
 pub mod Edges
 pub mod Outcomes
 pub mod Deciding
+pub mod Unique

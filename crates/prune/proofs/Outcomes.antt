@@ -11,12 +11,8 @@ use Rattle.model.specs.Refusals.{result, refused, damaged, Outcome}
 use Rattle.model.specs.Prune.{Copies, unsound, copies, trimAll, copyAll}
 use Rattle.model.specs.declared.id.NodeNo.{NodeNo}
 use Rattle.pool.specs.Write.{listed}
+use Rattle.pool.proofs.Listed.{length-listed}
 use Rattle.prune.specs.Found.{resetTo, cutTo}
-
-pub length-listed : (l : List NodeNo) (i k : ℕ) → length (listed l i k) ≡ k
-unfolding listed
-length-listed l i zero = refl
-length-listed l i (suc k) = ap suc (length-listed l (i + 1) k)
 
 module _ (C P : ℕ) (w : List ℕ) (n e k : ℕ) (G : List ℕ) where
   pub reset-full : P < freeCount w + length G → resetTo C P w n e k G ≡ record { answer = damaged; words = w }

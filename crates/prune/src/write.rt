@@ -5,13 +5,11 @@ ghost use mathlib.Core.List.{_++_, reverse};
 ghost use Prim.Native.Nat.{_+_, _-_, _≤_, _<_};
 ghost use Rattle.model.specs.Words.{emptied, freeAll};
 ghost use Rattle.model.specs.Prune.{copyAll, trimAll};
-ghost use Rattle.node.specs.Layout.{Fits};
 ghost use Rattle.pool.specs.Write.{listed};
 ghost use Rattle.prune.specs.Found.{leftOf, trimsOf};
 ghost use Rattle.prune.specs.Writable.{Resettable, Writable};
 use model::id::NodeNo;
 use model::id::RowID;
-use model::node::RowPageIndexNodeHeader;
 use model::path::Path;
 use node::layout::Layout;
 use pool::write;
@@ -36,30 +34,11 @@ pub fn write_edge(
     trim::free_copied(l, s, nodes, k);
 }
 
-// Node n becomes an empty root leaf that starts at this row.
-fn empty_node(l: Layout, s: &mut [u64], n: NodeNo, start: RowID)
-    requires { ⌜ Fits l (now s) ⌝ }
-    requires { ⌜ n .0 < l .pool ⌝ }
-    ensures { λ _. ⌜ now (s .exit) ≡ emptied (l .capacity) (now (s .entry)) (n .0) (start .0) ⌝ }
-{
-    write::put_header(
-        l,
-        s,
-        n,
-        RowPageIndexNodeHeader {
-            height: 0,
-            count: 0,
-            start_row_id: start,
-            end_row_id: RowID(RowPageIndexNodeHeader::NONE),
-        },
-    );
-}
-
 // Nothing is left: all below the root is freed, and the root is an empty leaf from the end on.
 pub fn write_reset(l: Layout, s: &mut [u64], root: NodeNo, end: RowID, edge: Path)
     requires { ⌜ Resettable (l .capacity) (l .pool) (now s) (root .0) edge ⌝ }
     ensures { λ _. ⌜ now (s .exit) ≡ freeAll (l .capacity) (emptied (l .capacity) (now (s .entry)) (root .0) (end .0)) (leftOf (l .capacity) (now (s .entry)) edge) ⌝ }
 {
     reap::free_gone(l, s, edge);
-    empty_node(l, s, root, end);
+    write::empty_node(l, s, root, end);
 }

@@ -4,10 +4,6 @@ use Rattle.prune.specs.Found.{leftOf}
 use Rattle.prune.proofs.Written.{freed-header}
 use Rattle.prune.proofs.write.write_reset.Statement.{statement}
 use Rattle.prune.proofs.write.write_reset.Tie as tie
-use Rattle.prune.proofs.write.write_reset.Reads as reads
-use Rattle.prune.proofs.write.write_reset.Lts as lts
-use Rattle.prune.proofs.write.empty_node.Reads as empty-node-reads
-use Rattle.reap.proofs.free_gone.Reads as free-gone-reads
 
 -- src/write.rt:63:5
 free-gone-requires : tie.Need-free-gone-requires

@@ -1,10 +1,10 @@
 use borrow.Author.Needs.{needs}
 use Rattle.model.specs.Words.{emptied}
-use Rattle.prune.proofs.write.empty_node.Statement.{statement}
-use Rattle.prune.proofs.write.empty_node.Tie as tie
-use Rattle.prune.proofs.write.empty_node.Reads as reads
-use Rattle.prune.proofs.write.empty_node.Lts as lts
+use Rattle.pool.proofs.write.empty_node.Statement.{statement}
+use Rattle.pool.proofs.write.empty_node.Tie as tie
+use Rattle.pool.proofs.write.empty_node.Reads as reads
+use Rattle.pool.proofs.write.empty_node.Lts as lts
 use Rattle.pool.proofs.write.put_header.Reads as put-header-reads
 
 -- src/write.rt:45:5
 put-header-requires : tie.Need-put-header-requires
