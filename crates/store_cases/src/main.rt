@@ -8,6 +8,7 @@ use model::answer::Created;
 use model::answer::Destroyed;
 use model::answer::Inserted;
 use model::answer::NextLeaf;
+use model::answer::Pruned;
 use model::answer::Refusal;
 use model::answer::RowLocation;
 use model::cursor::RowPageIndexMemCursor;
@@ -36,6 +37,10 @@ fn detail(r: Refusal) -> u64 {
     match r {
         Refusal::Unsound(n) => n.0,
         Refusal::NoRoom(needed) => needed,
+        Refusal::StartDiffers(row) => row.0,
+        Refusal::PageDiffers(place) => place,
+        Refusal::EndDiffers(place) => place,
+        Refusal::ListTooLong(held) => held,
         Refusal::RowBelowPivot(row) => row.0,
         Refusal::ListTooShort(wanted) => wanted,
         _ => 0,
@@ -431,6 +436,85 @@ fn releases(s: &mut [u64]) {
     closed(s);
 }
 
+// A prune, and its line.
+fn cut(s: &mut [u64], start: u64, end: u64, ids: &[u64]) {
+    match prune::prune_checkpoint_prefix(s, RowID(start), RowID(end), ids) {
+        Pruned::Done(p) => {
+            let done = [b'p', b'r', b'u', b'n', b'e', b' '];
+            io::write_all(STDOUT_FILENO, &done);
+            print_line(p.removed_entries, p.reclaimed_nodes, p.collapsed_levels);
+        }
+        Pruned::Refused(r) => print_refusal(r),
+    }
+}
+
+// Five pages, word i damaged, and a prune.
+fn cut_damaged(s: &mut [u64], i: usize, x: u64, end: u64, ids: &[u64]) {
+    make(s, 2, 16, 0);
+    append_two(s, 1, 2);
+    append_two(s, 3, 4);
+    append(s, 10, 5);
+    damage(s, i, x);
+    cut(s, 0, end, ids);
+    check(s);
+}
+
+// Five pages, a prune of some of them, and a row from there on.
+fn cut_five(s: &mut [u64], end: u64, ids: &[u64]) {
+    cut_damaged(s, 7, 0, end, ids);
+    find_row(s, 5);
+    find_row(s, end);
+    append(s, 10, 6);
+}
+
+// 01's cuts after five pages.
+fn cuts(s: &mut [u64]) {
+    let one = [1u64];
+    let two = [1u64, 2];
+    let three = [1u64, 2, 3];
+    let four = [1u64, 2, 3, 4];
+    let five = [1u64, 2, 3, 4, 5];
+    cut_five(s, 10, &one);
+    cut_five(s, 20, &two);
+    cut_five(s, 30, &three);
+    cut_five(s, 40, &four);
+    cut_five(s, 50, &five);
+}
+
+// 01's refusals after five pages: another page, an end inside a page, an end past the list, too many ids, another start,
+// no ids, no rows.
+fn no_cuts(s: &mut [u64]) {
+    let one = [1u64];
+    let other = [1u64, 3];
+    let three = [1u64, 2, 3];
+    let six = [1u64, 2, 3, 4, 5, 6];
+    let none = [0u64; 0];
+    cut_damaged(s, 7, 0, 20, &other);
+    cut(s, 0, 25, &three);
+    cut(s, 0, 20, &one);
+    cut(s, 0, 60, &six);
+    cut(s, 10, 20, &one);
+    cut(s, 0, 10, &none);
+    cut(s, 10, 10, &one);
+    check(s);
+}
+
+// The left leaf's count; the child number of the right leaf; the leaf that a collapse copies; one that is not read; a free
+// count that leaves no room; an empty root; a closed store.
+fn damaged_cuts(s: &mut [u64]) {
+    let two = [1u64, 2];
+    let four = [1u64, 2, 3, 4];
+    cut_damaged(s, 17, 3, 20, &two);
+    cut_damaged(s, 39, 16, 20, &two);
+    cut_damaged(s, 49, 3, 40, &four);
+    cut_damaged(s, 49, 3, 20, &two);
+    cut_damaged(s, 4, 16, 20, &two);
+    make(s, 2, 16, 0);
+    cut(s, 0, 20, &two);
+    damage(s, 2, 16);
+    cut(s, 0, 20, &two);
+}
+
 fn main() {
     let mut s = [0u64; 136];
     nine_pages(&mut s);
@@ -443,4 +527,7 @@ fn main() {
     walks(&mut s);
     checks(&mut s);
     releases(&mut s);
+    cuts(&mut s);
+    no_cuts(&mut s);
+    damaged_cuts(&mut s);
 }
