@@ -472,47 +472,74 @@ fn cuts(s: &mut [u64]) {
     let one = [1u64];
     let two = [1u64, 2];
     let three = [1u64, 2, 3];
-    let four = [1u64, 2, 3, 4];
-    let five = [1u64, 2, 3, 4, 5];
     cut_five(s, 10, &one);
     cut_five(s, 20, &two);
     cut_five(s, 30, &three);
+}
+
+fn large_cuts(s: &mut [u64]) {
+    let four = [1u64, 2, 3, 4];
+    let five = [1u64, 2, 3, 4, 5];
     cut_five(s, 40, &four);
     cut_five(s, 50, &five);
 }
 
-// 01's refusals after five pages: another page, an end inside a page, an end past the list, too many ids, another start,
-// no ids, no rows.
-fn no_cuts(s: &mut [u64]) {
-    let one = [1u64];
+// 01's refusals after five pages: another page, an end inside a page, an end past the list, too many ids.
+fn wrong_lists(s: &mut [u64]) {
     let other = [1u64, 3];
     let three = [1u64, 2, 3];
+    let one = [1u64];
     let six = [1u64, 2, 3, 4, 5, 6];
-    let none = [0u64; 0];
     cut_damaged(s, 7, 0, 20, &other);
     cut(s, 0, 25, &three);
     cut(s, 0, 20, &one);
     cut(s, 0, 60, &six);
+}
+
+// Another start, no ids, no rows.
+fn wrong_rows(s: &mut [u64]) {
+    let one = [1u64];
+    let none = [0u64; 0];
     cut(s, 10, 20, &one);
     cut(s, 0, 10, &none);
     cut(s, 10, 10, &one);
     check(s);
 }
 
-// The left leaf's count; the child number of the right leaf; the leaf that a collapse copies; one that is not read; a free
-// count that leaves no room; an empty root; a closed store.
+// The left leaf's count; a free count that leaves no room; the count of a leaf that is to be copied.
 fn damaged_cuts(s: &mut [u64]) {
     let two = [1u64, 2];
     let four = [1u64, 2, 3, 4];
     cut_damaged(s, 17, 3, 20, &two);
-    cut_damaged(s, 39, 16, 20, &two);
-    cut_damaged(s, 49, 3, 40, &four);
-    cut_damaged(s, 49, 3, 20, &two);
     cut_damaged(s, 4, 16, 20, &two);
+    cut_damaged(s, 49, 3, 40, &four);
+}
+
+// What is not read means nothing: a child number out of range, the count of a leaf further right.
+fn lazy_cuts(s: &mut [u64]) {
+    let two = [1u64, 2];
+    cut_damaged(s, 39, 16, 20, &two);
+    cut_damaged(s, 49, 3, 20, &two);
+}
+
+// An empty root, and a closed store.
+fn cuts_of_none(s: &mut [u64]) {
+    let two = [1u64, 2];
     make(s, 2, 16, 0);
     cut(s, 0, 20, &two);
+    cut(s, 5, 20, &two);
     damage(s, 2, 16);
     cut(s, 0, 20, &two);
+}
+
+fn all_cuts(s: &mut [u64]) {
+    cuts(s);
+    large_cuts(s);
+    wrong_lists(s);
+    wrong_rows(s);
+    damaged_cuts(s);
+    lazy_cuts(s);
+    cuts_of_none(s);
 }
 
 fn main() {
@@ -527,7 +554,5 @@ fn main() {
     walks(&mut s);
     checks(&mut s);
     releases(&mut s);
-    cuts(&mut s);
-    no_cuts(&mut s);
-    damaged_cuts(&mut s);
+    all_cuts(&mut s);
 }
