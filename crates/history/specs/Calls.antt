@@ -1,0 +1,86 @@
+-- A history: calls with any arguments on one store, what they answer and leave, and the ledger beside them.
+use Prim.Native.Nat.{ℕ}
+use mathlib.Core.List.{List, [], _∷_}
+use Rattle.model.specs.Refusals.{Answer, result, refused}
+use Rattle.model.specs.Lookup.{tryFindRow}
+use Rattle.model.specs.Append.{insertRowPage}
+use Rattle.model.specs.Prune.{pruneCheckpointPrefix}
+use Rattle.model.specs.LeafWalk.{seek, nextLeafOf}
+use Rattle.model.specs.Release.{destroy, destroyEmpty}
+use Rattle.model.specs.FullCheck.{fullCheck}
+use Rattle.model.specs.Ledger.{Ledger, ledgerAppend, Cut, refuses, leaves, ledgerCut}
+use Rattle.model.specs.declared.node.PageEntry.{PageEntry}
+use Rattle.model.specs.declared.cursor.RowPageIndexMemCursor.{RowPageIndexMemCursor}
+
+-- what is lent beside the store, of any contents
+pub record Hand : Type 0 where
+  pub cursor : RowPageIndexMemCursor
+  pub records : List PageEntry
+  pub pages : List ℕ
+
+-- every call but create, with any arguments
+pub data Call : Type 0 where
+  append : ℕ → ℕ → Call
+  lookup : ℕ → Call
+  prune : ℕ → ℕ → List ℕ → Call
+  seekRow : ℕ → Call
+  nextLeaf : Call
+  release : ℕ → Call
+  releaseEmpty : Call
+  check : Call
+
+-- an answer, with the words and all else that was lent afterwards
+pub record Reply : Type 0 where
+  pub answer : Answer
+  pub words : List ℕ
+  pub hand : Hand
+
+-- the calls' own definitions; what a call does not name stays
+unfoldable pub reply : List ℕ → Hand → Call → Reply
+reply w m (append k x) = let o = insertRowPage w k x in record { answer = o .answer; words = o .words; hand = m }
+reply w m (lookup q) = record { answer = tryFindRow w q; words = w; hand = m }
+reply w m (prune s e ids) = let o = pruneCheckpointPrefix w s e ids in record { answer = o .answer; words = o .words; hand = m }
+reply w m (seekRow q) = record { answer = result []; words = w; hand = record { cursor = seek q; records = m .records; pages = m .pages } }
+reply w m nextLeaf =
+    let o = nextLeafOf w (m .cursor) (m .records) in
+    record { answer = o .answer; words = w; hand = record { cursor = o .cursor; records = o .list; pages = m .pages } }
+reply w m (release v) =
+    let o = destroy w v (m .pages) in
+    record { answer = o .answer; words = o .words; hand = record { cursor = m .cursor; records = m .records; pages = o .list } }
+reply w m releaseEmpty = let o = destroyEmpty w in record { answer = o .answer; words = o .words; hand = m }
+reply w m check = record { answer = fullCheck w; words = w; hand = m }
+
+-- what a store stands for
+pub data State : Type 0 where
+  holding : Ledger → State
+  closed : State
+
+unfoldable pub ifDone : {A : Type 0} → Answer → A → A → A
+ifDone (result v) a b = a
+ifDone (refused n d) a b = b
+
+-- the ledger that a cut ending at e leaves
+unfoldable pub cutLedger : Ledger → ℕ → Cut → Ledger
+cutLedger l e (refuses n d) = l
+cutLedger l e (leaves gs) = record { start = e; ranges = gs }
+
+-- after a call with this answer
+unfoldable pub following : State → Call → Answer → State
+following closed c a = closed
+following (holding l) (append k x) a = holding (ifDone a (ledgerAppend l k x) l)
+following (holding l) (lookup q) a = holding l
+following (holding l) (prune s e ids) a = holding (cutLedger l e (ledgerCut l s e ids))
+following (holding l) (seekRow q) a = holding l
+following (holding l) nextLeaf a = holding l
+following (holding l) (release v) a = ifDone a closed (holding l)
+following (holding l) releaseEmpty a = ifDone a closed (holding l)
+following (holding l) check a = holding l
+
+-- where a history leads
+pub record Place : Type 0 where
+  pub words : List ℕ
+  pub state : State
+
+unfoldable pub run : Place → List (Hand × Call) → Place
+run p [] = p
+run p ((m, c) ∷ cs) = let r = reply (p .words) m c in run (record { words = r .words; state = following (p .state) c (r .answer) }) cs

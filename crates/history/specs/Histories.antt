@@ -1,0 +1,109 @@
+-- Demand 3: what a store stands for after any history, and what each call then answers and leaves.
+use Prim.Native.Nat.{ℕ, _<_, _≤_}
+use mathlib.Core.List.{List, [], _∷_, _++_, map}
+use mathlib.Core.Bool.{true, false}
+use mathlib.Core.Path.{_≡_}
+use mathlib.Core.Logic.{_⊎_}
+use lib.ListN.{length, drop}
+use lib.Dec.{leb, ltb, eqb}
+use Rattle.model.specs.Words.{pick, capacity, pool, root, freeHead, freeCount, NONE, maxHeight, Header}
+use Rattle.model.specs.Reading.{Fault, clear, at, unlessBad, occ}
+use Rattle.model.specs.Refusals.{Answer, result, refused}
+use Rattle.model.specs.WellFormed.{Chain}
+use Rattle.model.specs.LeafWalk.{cursorAt, seek, pageEntry}
+use Rattle.model.specs.Ledger.{Range, Ledger, ledgerFind, endFrom, ledgerEnd, ledgerCut, walkFrom, ledgerWalk}
+use Rattle.model.specs.declared.node.PageEntry.{PageEntry}
+use Rattle.model.specs.declared.cursor.RowPageIndexMemCursor.{RowPageIndexMemCursor}
+use Rattle.formed.specs.Holds.{Holds}
+use Rattle.growth.specs.Inserted.{verdict, Passes}
+use Rattle.ledger.specs.Sizes.{treeHeight, treeNodes, neededNodes}
+use Rattle.ledger.specs.Laws.{PruneLaw}
+use Rattle.cursor.specs.Walking.{leafCount, Gives, From}
+use Rattle.history.specs.Calls.{Hand, Call, append, lookup, prune, seekRow, nextLeaf, release, releaseEmpty, check, Reply, reply, State, holding, closed, Place}
+
+-- Next -----------------------------------------------------------------------------------------------------------
+
+-- "that leaf's end"; "an empty root leaf ends at NONE"
+unfoldable pub leafEnd : ℕ → List Range → ℕ
+leafEnd s [] = NONE
+leafEnd s (g ∷ gs) = endFrom s (g ∷ gs)
+
+-- the leaf given for the cursor's row holds some ranges in turn, from row s on
+pub record GivesLeaf (l : Ledger) (m : Hand) (r : Reply) : Type 0 where
+  pub before : List Range
+  pub those : List Range
+  pub rest : List Range
+  pub is : l .ranges ≡ before ++ (those ++ rest)
+  pub s : ℕ
+  pub begins : s ≡ endFrom (l .start) before
+  pub answer : r .answer ≡ result (s ∷ leafEnd s those ∷ length those ∷ [])
+  pub cursor : r .hand .cursor ≡ cursorAt (leafEnd s those) (eqb (length rest) 0)
+  pub records : r .hand .records ≡ map (λ (p : ℕ × ℕ). pageEntry (p .0) (p .1)) (walkFrom s those) ++ drop (length those) (m .records)
+  -- "below the start: the first; past the end: the last; empty: the empty root"
+  pub low : (before ≡ []) ⊎ (s ≤ m .cursor .«row_id» .0)
+  pub high : (rest ≡ []) ⊎ (m .cursor .«row_id» .0 < leafEnd s those)
+  pub some : those ≡ [] → l .ranges ≡ []
+
+-- "Next: 13, none if done"
+pub record NextLaw (w : List ℕ) (l : Ledger) (m : Hand) (r : Reply) : Type 0 where
+  pub short : length (m .records) < capacity w → r .answer ≡ refused 13 (capacity w)
+  pub none : capacity w ≤ length (m .records) → m .cursor .done ≡ true → r ≡ record { answer = result []; words = w; hand = m }
+  pub gives : capacity w ≤ length (m .records) → m .cursor .done ≡ false → GivesLeaf l m r
+
+-- Release: 12 with the first row below pivot v, 13 where fewer than the ledger's pages fit --------------------------
+
+unfoldable pub firstBelow : ℕ → List (ℕ × ℕ) → Fault
+firstBelow v [] = clear
+firstBelow v (p ∷ ps) = pick (ltb (p .0) v) (at (p .0)) (firstBelow v ps)
+
+unfoldable pub ledgerRelease : Ledger → ℕ → ℕ → ℕ → Answer
+ledgerRelease l v nodes fit =
+    let n = length (l .ranges) in
+    unlessBad (firstBelow v (ledgerWalk l)) (refused 12) (pick (leb n fit) (result (nodes ∷ n ∷ [])) (refused 13 n))
+
+-- Each call on the store w with ledger l ---------------------------------------------------------------------------
+
+unfoldable pub Told : List ℕ → Ledger → Hand → Call → Reply → Type 0
+Told w l m (append k x) r = r .answer ≡ verdict k (ledgerEnd l) (treeHeight w) (neededNodes w) (freeCount w)
+Told w l m (lookup q) r = r .answer ≡ ledgerFind l q
+Told w l m (prune s e ids) r = PruneLaw w e ids (ledgerCut l s e ids) (record { answer = r .answer; words = r .words })
+Told w l m (seekRow q) r = r .hand .cursor ≡ cursorAt q false
+Told w l m nextLeaf r = NextLaw w l m r
+Told w l m (release v) r =
+    (r .answer ≡ ledgerRelease l v (treeNodes w) (length (m .pages)))
+    × ((a : List ℕ) → r .answer ≡ result a → r .hand .pages ≡ map (λ (g : Range). g .page) (l .ranges) ++ drop (length (l .ranges)) (m .pages))
+Told w l m releaseEmpty r = r .answer ≡ pick (eqb (length (l .ranges)) 0) (result (1 ∷ 0 ∷ [])) (refused 12 0)
+Told w l m check r = r .answer ≡ result (length (l .ranges) ∷ treeNodes w ∷ freeCount w ∷ [])
+
+-- The store holds a ledger -----------------------------------------------------------------------------------------
+
+pub record Holding (w : List ℕ) (l : Ledger) : Type 0 where
+  -- well-formed, so every node stands once in the tree or once in the chain; the entries are the ledger's
+  pub holds : Holds w l
+  pub told : (m : Hand) (c : Call) → Told w l m c (reply w m c)
+  -- a refusal changes nothing that was lent, and is neither 1 nor 2 nor 3; 6 comes at height 31 only
+  pub same : (m : Hand) (c : Call) (a d : ℕ) → reply w m c .answer ≡ refused a d → reply w m c ≡ record { answer = refused a d; words = w; hand = m }
+  pub above : (m : Hand) (c : Call) (a d : ℕ) → reply w m c .answer ≡ refused a d → 3 < a
+  pub six : (m : Hand) (c : Call) (d : ℕ) → reply w m c .answer ≡ refused 6 d → treeHeight w ≡ maxHeight
+  -- past 4 and 6: "no room" where, and only where, the nodes needed outnumber the free ones
+  pub room : (m : Hand) (k x : ℕ) → Passes k (ledgerEnd l) (treeHeight w) (neededNodes w) → freeCount w < neededNodes w → reply w m (append k x) .answer ≡ refused 5 (neededNodes w)
+  pub only : (m : Hand) (c : Call) (d : ℕ) → reply w m c .answer ≡ refused 5 d → (freeCount w < neededNodes w) × (d ≡ neededNodes w)
+  -- whole walks, with no change of the store between their steps
+  pub walk : (q : ℕ) (x : List PageEntry) → q ≤ l .start → capacity w ≤ length x → Gives w (seek q) x (ledgerWalk l) (leafCount w)
+  pub from : (q : ℕ) (x : List PageEntry) → capacity w ≤ length x → From w l q x
+
+-- After a release: every node is in the chain, once; each call that is lent the store answers 3 and changes nothing ----
+
+pub record Closed (w : List ℕ) : Type 0 where
+  pub fits : Header (capacity w) (pool w) w
+  pub shut : root w ≡ pool w
+  pub chain : List ℕ
+  pub linked : Chain (capacity w) (pool w) w (freeHead w) chain
+  pub free : freeCount w ≡ pool w
+  pub long : length chain ≡ pool w
+  pub once : (n : ℕ) → n < pool w → occ n chain ≡ 1
+  pub told : (m : Hand) (c : Call) → (reply w m c ≡ record { answer = refused 3 0; words = w; hand = m }) ⊎ ((q : ℕ) × (c ≡ seekRow q))
+
+unfoldable pub Kept : List ℕ → State → Type 0
+Kept w (holding l) = Holding w l
+Kept w closed = Closed w
