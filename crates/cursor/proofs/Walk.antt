@@ -39,14 +39,14 @@ unfolding joined
 joined-append [] ys = refl
 joined-append (x ∷ xs) ys = ap (λ (t : List (ℕ × ℕ)). x .pairs ++ t) (joined-append xs ys) ∙ sym (append-assoc (x .pairs) (joined xs) (joined ys))
 
-abbrev lowPage : Entry → ℕ × ℕ
+abbrev pub lowPage : Entry → ℕ × ℕ
 lowPage e = (e .low, e .page)
 
 map-append : (a b : List Entry) → map lowPage (a ++ b) ≡ map lowPage a ++ map lowPage b
 map-append [] b = refl
 map-append (e ∷ a) b = ap (λ (t : List (ℕ × ℕ)). lowPage e ∷ t) (map-append a b)
 
-leaf-joined : (ps : List (ℕ × ℕ)) (b : Limit) → map lowPage (overPairs (entries 0) ps b) ≡ ps
+pub leaf-joined : (ps : List (ℕ × ℕ)) (b : Limit) → map lowPage (overPairs (entries 0) ps b) ≡ ps
 unfolding overPairs entries
 leaf-joined [] b = refl
 leaf-joined (p ∷ ps) b = ap (λ (t : List (ℕ × ℕ)). p ∷ t) (leaf-joined ps b)
@@ -65,7 +65,7 @@ unfolding entries leaves joined last
 tree-joined zero t r b = leaf-joined (t .pairs) (Below (t .end)) ∙ sym (append-nil (t .pairs))
 tree-joined (suc h) t r b = over-joined (entries (suc h)) (leaves h) (tree-joined h) (t .pairs) b
 
-from-walk : (s : ℕ) (gs : List Range) → map lowPage (entriesFrom s gs) ≡ walkFrom s gs
+pub from-walk : (s : ℕ) (gs : List Range) → map lowPage (entriesFrom s gs) ≡ walkFrom s gs
 unfolding entriesFrom walkFrom
 from-walk s [] = refl
 from-walk s (g ∷ gs) = ap (λ (t : List (ℕ × ℕ)). (s, g .page) ∷ t) (from-walk (g .end) gs)

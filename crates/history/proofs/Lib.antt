@@ -1,1 +1,3 @@
 pub mod Shut
+pub mod Releasing
+pub mod Leaves
