@@ -1,3 +1,6 @@
 pub mod Shut
 pub mod Releasing
 pub mod Leaves
+pub mod Next
+pub mod Refusing
+pub mod Histories
