@@ -95,7 +95,7 @@ module _ (C : ℕ) (w : List ℕ) (n : ℕ) where
   pairs-of i zero = refl
   pairs-of i (suc k) = ap (λ (t : List (ℕ × ℕ)). (row C w n i, child C w n i) ∷ t) (pairs-of (i + 1) k)
 
-  read : (k : ℕ) (l : List PageEntry) → k ≤ length l → firstPairs k (fill l 0 (records C w n 0 k)) ≡ pairsFrom C w (λ (x : ℕ). x) n 0 k
+  pub read : (k : ℕ) (l : List PageEntry) → k ≤ length l → firstPairs k (fill l 0 (records C w n 0 k)) ≡ pairsFrom C w (λ (x : ℕ). x) n 0 k
   read k l h =
       let e = length-records C w n 0 k in
       ap (map pairOf) (subst (λ (x : ℕ). take x (fill l 0 (records C w n 0 k)) ≡ records C w n 0 k) e (take-filled l (records C w n 0 k) (omega (arith, e)))) ∙ pairs-of 0 k

@@ -1,22 +1,26 @@
 -- Demand 3: after any history from an accepted create.
-use Prim.Native.Nat.{ℕ, _<_, _≤_}
+use Prim.Native.Nat.{ℕ, _+_, _<_, _≤_}
 use mathlib.Core.List.{List, [], _∷_}
 use mathlib.Core.Path.{_≡_, refl, sym, ap, _∙_, subst}
 use mathlib.Core.Logic.{_⊎_, inl, inr, ⊎-elim}
-use lib.ListN.{length}
-use Rattle.model.specs.Words.{capacity, root, freeCount}
+use native.Mathlib.Omega.{arith}
+use lib.ListN.{length, length-append}
+use Rattle.model.specs.Words.{capacity, pool, root, freeCount, part, start}
 use Rattle.model.specs.Reading.{rootEntries, rootNodes}
 use Rattle.model.specs.Refusals.{Answer, result, refused, Outcome}
 use Rattle.model.specs.Create.{create}
 use Rattle.model.specs.Append.{insertRowPage}
 use Rattle.model.specs.Prune.{pruneCheckpointPrefix}
+use Rattle.model.specs.LeafWalk.{seek}
 use Rattle.model.specs.Release.{Released, destroy, destroyEmpty}
 use Rattle.model.specs.Ledger.{Range, Ledger, emptyLedger, ledgerEnd, ledgerAppend, Cut, refuses, leaves, ledgerCut}
 use Rattle.formed.specs.Holds.{Holds}
+use Rattle.formed.proofs.Bridge.{formed-of}
 use Rattle.formed.proofs.Check.{accepted}
 use Rattle.formed.proofs.Entries.{from-length}
 use Rattle.formed.proofs.FindLaw.{find-law}
 use Rattle.growth.specs.Inserted.{verdict}
+use Rattle.growth.proofs.Insert.{insert-keeps}
 use Rattle.growth.proofs.Verdict.{verdict-five}
 use Rattle.ledger.specs.Sizes.{treeHeight, treeNodes, neededNodes}
 use Rattle.ledger.specs.Laws.{InsertLaw, PruneLaw}
@@ -26,7 +30,15 @@ use Rattle.history.specs.Calls.{Hand, Call, append, lookup, prune, seekR
 use Rattle.history.specs.Histories.{Told, Holding, Closed, Kept}
 use Rattle.history.proofs.Releasing.{closed-of, Decided, below, short, good, decide, DecidedEmpty, filled, bare, decide-empty}
 use Rattle.history.proofs.Next.{next-law}
-use Rattle.history.proofs.Refusing.{result-not, refusal-is}
+use Rattle.history.proofs.Among.{result-not, walk-among}
+use Rattle.history.proofs.Refusing.{refusal-is}
+
+-- an append takes the nodes it needs from the chain
+taken : (w : List ℕ) (l : Ledger) → Holds w l → (k x : ℕ) (a : List ℕ) → insertRowPage w k x .answer ≡ result a → freeCount (insertRowPage w k x .words) + neededNodes w ≡ freeCount w
+taken w l H k x a e =
+    let F = formed-of w (H .formed) in
+    let A = insert-keeps (capacity w) (pool w) w (treeHeight w) (start (capacity w) w (root w)) (F .0) (F .1) k x a e in
+    omega (arith, F .1 .free, A .formed .free, ap length (A .left), length-append (A .gone) (A .rest), A .many)
 
 module _ (w : List ℕ) (l : Ledger) (H : Holds w l) where
   -- What each call answers ---------------------------------------------------------------------------------
@@ -50,7 +62,7 @@ module _ (w : List ℕ) (l : Ledger) (H : Holds w l) where
 
   told : (m : Hand) (c : Call) → Told w l m c (reply w m c)
   unfolding Told reply
-  told m (append k x) = insert-law w l H k x .answer
+  told m (append k x) = (insert-law w l H k x .answer, λ a e. taken w l H k x a e)
   told m (lookup q) = find-law w l H q
   told m (prune s e ids) = prune-law w l H s e ids
   told m (seekRow q) = refl
@@ -72,6 +84,7 @@ module _ (w : List ℕ) (l : Ledger) (H : Holds w l) where
         only = λ m c d e. refusal-is w l H m c 5 d e .0 .five refl;
         walk = λ q x h room. walk-law w l H q h x room;
         from = λ q x room. walk-from w l H q x room;
+        among = λ q x room cs ps n g. walk-among w l H (seek q) cs ps n g x room;
       }
 
 -- What each call leaves -------------------------------------------------------------------------------------

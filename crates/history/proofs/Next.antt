@@ -46,15 +46,15 @@ module _ (w : List ℕ) (l : Ledger) (H : Holds w l) (m : Hand) where
   abbrev still : Answer → Stepped
   still a = record { answer = a; cursor = c; list = x }
 
-  next-short : length x < C → nextLeafOf w c x ≡ still (refused 13 C)
+  pub next-short : length x < C → nextLeafOf w c x ≡ still (refused 13 C)
   unfolding nextLeafOf
   next-short h = goes-on w (H .formed) still _ ∙ rw (lt-ltb (length x) C h)
 
-  next-none : C ≤ length x → c .done ≡ true → nextLeafOf w c x ≡ still (result [])
+  pub next-none : C ≤ length x → c .done ≡ true → nextLeafOf w c x ≡ still (result [])
   unfolding nextLeafOf
   next-none h d = goes-on w (H .formed) still _ ∙ rw (le-ltb (length x) C h, d)
 
-  next-leaf : C ≤ length x → c .done ≡ false → (S : Spot w l (c .«row_id» .0)) → nextLeafOf w c x ≡ given C w c x (leaf (S .n) (S .b))
+  pub next-leaf : C ≤ length x → c .done ≡ false → (S : Spot w l (c .«row_id» .0)) → nextLeafOf w c x ≡ given C w c x (leaf (S .n) (S .b))
   unfolding nextLeafOf
   next-leaf h d S = (goes-on w (H .formed) still _ ∙ rw (le-ltb (length x) C h, d)) ∙ ap (given C w c x) (S .reached)
 
@@ -66,7 +66,7 @@ module _ (w : List ℕ) (l : Ledger) (H : Holds w l) (m : Hand) where
       ∙ ap (λ (j : ℕ). records C w n 0 k ++ drop j x) (length-records C w n 0 k)
       ∙ ap (λ (t : List PageEntry). t ++ drop k x) (records-are C w n 0 k ∙ ap (map entryOf) e)
 
-  gives-leaf : C ≤ length x → c .done ≡ false → GivesLeaf l m (reply w m nextLeaf)
+  pub gives-leaf : C ≤ length x → c .done ≡ false → GivesLeaf l m (reply w m nextLeaf)
   unfolding reply given
   gives-leaf h d =
       let S = spot w l H (c .«row_id» .0) in

@@ -25,6 +25,7 @@ use Rattle.ledger.proofs.Calls.{insert-law, prune-law}
 use Rattle.history.specs.Calls.{Hand, Call, append, lookup, prune, seekRow, nextLeaf, release, releaseEmpty, check, Reply, reply}
 use Rattle.history.proofs.Releasing.{Decided, below, short, good, decide, DecidedEmpty, filled, bare, decide-empty}
 use Rattle.history.proofs.Next.{next-decide}
+use Rattle.history.proofs.Among.{result-not}
 
 pick-both : {A : Type 0} (Q : A → Type 0) (t : Bool) (a b : A) → (t ≡ true → Q a) → (t ≡ false → Q b) → Q (pick t a b)
 pick-both Q true a b f g = f refl
@@ -90,9 +91,6 @@ unfolding findFrom
 find-result s [] q = ([], refl)
 find-result s (g ∷ gs) q =
     pick-both (λ (a : Answer). (v : List ℕ) × (a ≡ result v)) (leb s q && ltb q (g .end)) (result (g .page ∷ [])) (findFrom (g .end) gs q) (λ t. (g .page ∷ [], refl)) (λ t. find-result (g .end) gs q)
-
-pub result-not : (v : List ℕ) (a d : ℕ) → result v ≡ refused a d → ⊥
-result-not v a d e = let z : _≡_ {A = ℕ} 0 1 = cc in absurd (omega arith)
 
 -- Every call -----------------------------------------------------------------------------------------------
 

@@ -1,5 +1,5 @@
 -- Demand 3: what a store stands for after any history, and what each call then answers and leaves.
-use Prim.Native.Nat.{ℕ, _<_, _≤_}
+use Prim.Native.Nat.{ℕ, suc, _+_, _<_, _≤_}
 use mathlib.Core.List.{List, [], _∷_, _++_, map}
 use mathlib.Core.Bool.{true, false}
 use mathlib.Core.Path.{_≡_}
@@ -18,7 +18,7 @@ use Rattle.formed.specs.Holds.{Holds}
 use Rattle.growth.specs.Inserted.{verdict, Passes}
 use Rattle.ledger.specs.Sizes.{treeHeight, treeNodes, neededNodes}
 use Rattle.ledger.specs.Laws.{PruneLaw}
-use Rattle.cursor.specs.Walking.{leafCount, Gives, From}
+use Rattle.cursor.specs.Walking.{leafCount, firstPairs, Gives, From}
 use Rattle.history.specs.Calls.{Hand, Call, append, lookup, prune, seekRow, nextLeaf, release, releaseEmpty, check, Reply, reply, State, holding, closed, Place}
 
 -- Next -----------------------------------------------------------------------------------------------------------
@@ -50,6 +50,17 @@ pub record NextLaw (w : List ℕ) (l : Ledger) (m : Hand) (r : Reply) : Type 0 w
   pub none : capacity w ≤ length (m .records) → m .cursor .done ≡ true → r ≡ record { answer = result []; words = w; hand = m }
   pub gives : capacity w ≤ length (m .records) → m .cursor .done ≡ false → GivesLeaf l m r
 
+-- A walk from a cursor, among other calls that leave the store w as it is: n steps give a leaf each, the one after them
+-- gives none, and the records of the leaves, joined, are these pairs.
+pub data Walks (w : List ℕ) : RowPageIndexMemCursor → List (Hand × Call) → List (ℕ × ℕ) → ℕ → Type 0 where
+  between : (c : RowPageIndexMemCursor) (m : Hand) (b : Call) (cs : List (Hand × Call)) (ps : List (ℕ × ℕ)) (n : ℕ) → reply w m b .words ≡ w
+      → Walks w c cs ps n → Walks w c ((m, b) ∷ cs) ps n
+  gave : (c : RowPageIndexMemCursor) (m : Hand) (cs : List (Hand × Call)) (s e k : ℕ) (ps : List (ℕ × ℕ)) (n : ℕ) → m .cursor ≡ c
+      → reply w m nextLeaf .answer ≡ result (s ∷ e ∷ k ∷ []) → Walks w (reply w m nextLeaf .hand .cursor) cs ps n
+      → Walks w c ((m, nextLeaf) ∷ cs) (firstPairs k (reply w m nextLeaf .hand .records) ++ ps) (suc n)
+  over : (c : RowPageIndexMemCursor) (m : Hand) (cs : List (Hand × Call)) → m .cursor ≡ c → reply w m nextLeaf .answer ≡ result []
+      → Walks w c ((m, nextLeaf) ∷ cs) [] 0
+
 -- Release: 12 with the first row below pivot v, 13 where fewer than the ledger's pages fit --------------------------
 
 unfoldable pub firstBelow : ℕ → List (ℕ × ℕ) → Fault
@@ -64,7 +75,9 @@ ledgerRelease l v nodes fit =
 -- Each call on the store w with ledger l ---------------------------------------------------------------------------
 
 unfoldable pub Told : List ℕ → Ledger → Hand → Call → Reply → Type 0
-Told w l m (append k x) r = r .answer ≡ verdict k (ledgerEnd l) (treeHeight w) (neededNodes w) (freeCount w)
+Told w l m (append k x) r =
+    (r .answer ≡ verdict k (ledgerEnd l) (treeHeight w) (neededNodes w) (freeCount w))
+    × ((a : List ℕ) → r .answer ≡ result a → freeCount (r .words) + neededNodes w ≡ freeCount w)
 Told w l m (lookup q) r = r .answer ≡ ledgerFind l q
 Told w l m (prune s e ids) r = PruneLaw w e ids (ledgerCut l s e ids) (record { answer = r .answer; words = r .words })
 Told w l m (seekRow q) r = r .hand .cursor ≡ cursorAt q false
@@ -88,9 +101,10 @@ pub record Holding (w : List ℕ) (l : Ledger) : Type 0 where
   -- past 4 and 6: "no room" where, and only where, the nodes needed outnumber the free ones
   pub room : (m : Hand) (k x : ℕ) → Passes k (ledgerEnd l) (treeHeight w) (neededNodes w) → freeCount w < neededNodes w → reply w m (append k x) .answer ≡ refused 5 (neededNodes w)
   pub only : (m : Hand) (c : Call) (d : ℕ) → reply w m c .answer ≡ refused 5 d → (freeCount w < neededNodes w) × (d ≡ neededNodes w)
-  -- whole walks, with no change of the store between their steps
+  -- whole walks, with no change of the store between their steps: from the start, from any row, and among other calls
   pub walk : (q : ℕ) (x : List PageEntry) → q ≤ l .start → capacity w ≤ length x → Gives w (seek q) x (ledgerWalk l) (leafCount w)
   pub from : (q : ℕ) (x : List PageEntry) → capacity w ≤ length x → From w l q x
+  pub among : (q : ℕ) (x : List PageEntry) → capacity w ≤ length x → (cs : List (Hand × Call)) (ps : List (ℕ × ℕ)) (n : ℕ) → Walks w (seek q) cs ps n → Gives w (seek q) x ps n
 
 -- After a release: every node is in the chain, once; each call that is lent the store answers 3 and changes nothing ----
 
