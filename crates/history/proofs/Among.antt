@@ -1,16 +1,16 @@
 -- A walk among other calls that leave the store as it is, with any lists, is the walk with one list and none between.
-use Prim.Native.Nat.{ℕ, suc, _<_, _≤_}
+use Prim.Native.Nat.{ℕ, suc, _≤_}
 use mathlib.Core.List.{List, [], _∷_, _++_}
-use mathlib.Core.Bool.{true, false}
+use mathlib.Core.Bool.{false}
 use mathlib.Core.Path.{_≡_, sym, ap, _∙_, subst}
 use native.Mathlib.Omega.{arith}
 use lib.ListN.{length}
 use lib.Dec.{ltb}
 use borrow.Author.Tests.{ltb-true, ltb-false}
-use Rattle.model.specs.Words.{fill, capacity, part, count}
+use Rattle.model.specs.Words.{fill, capacity, count}
 use Rattle.model.specs.Tree.{pairsFrom}
 use Rattle.model.specs.Reading.{leaf}
-use Rattle.model.specs.Refusals.{Answer, result, refused}
+use Rattle.model.specs.Refusals.{result, refused}
 use Rattle.model.specs.Ledger.{Ledger}
 use Rattle.model.specs.LeafWalk.{Stepped, records, given, nextLeafOf}
 use Rattle.model.specs.declared.node.PageEntry.{PageEntry}
@@ -20,9 +20,9 @@ use Rattle.formed.specs.Holds.{Holds}
 use Rattle.listing.proofs.Filling.{length-fill}
 use Rattle.cursor.specs.Walking.{firstPairs, Gives, one, ended}
 use Rattle.cursor.proofs.Walk.{read}
-use Rattle.history.specs.Calls.{Hand, Call, reply}
-use Rattle.history.specs.Histories.{Walks, between, gave, over}
-use Rattle.history.proofs.Leaves.{Spot, spot}
+use Rattle.history.specs.Calls.{Hand, reply, History}
+use Rattle.history.specs.Laws.{Walks, between, gave, over}
+use Rattle.history.proofs.Leaves.{spot}
 use Rattle.history.proofs.Next.{next-short, next-none, next-leaf, gives-leaf}
 
 pub result-not : (v : List ℕ) (a d : ℕ) → result v ≡ refused a d → ⊥
@@ -86,7 +86,7 @@ module _ (w : List ℕ) (l : Ledger) (H : Holds w l) where
       (λ d. next-none w l H (hand c x) hx d)
       (λ d. absurd (some-none (sym (gives-leaf w l H (hand c y) hy d .answer) ∙ a)))
 
-  pub walk-among : (c : RowPageIndexMemCursor) (cs : List (Hand × Call)) (ps : List (ℕ × ℕ)) (n : ℕ) → Walks w c cs ps n → (x : List PageEntry) → capacity w ≤ length x → Gives w c x ps n
+  pub walk-among : (c : RowPageIndexMemCursor) (cs : History) (ps : List (ℕ × ℕ)) (n : ℕ) → Walks w c cs ps n → (x : List PageEntry) → capacity w ≤ length x → Gives w c x ps n
   unfolding reply
   walk-among c _ ps n (between _ m b cs _ _ e g) x room = walk-among c cs ps n g x room
   walk-among c _ _ _ (gave _ m cs s e k ps n i a g) x room =

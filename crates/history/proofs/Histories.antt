@@ -1,37 +1,35 @@
 -- Demand 3: after any history from an accepted create.
-use Prim.Native.Nat.{ℕ, _+_, _<_, _≤_}
+use Prim.Native.Nat.{ℕ, _+_}
 use mathlib.Core.List.{List, [], _∷_}
 use mathlib.Core.Path.{_≡_, refl, sym, ap, _∙_, subst}
-use mathlib.Core.Logic.{_⊎_, inl, inr, ⊎-elim}
+use mathlib.Core.Logic.{⊎-elim}
 use native.Mathlib.Omega.{arith}
-use lib.ListN.{length, length-append}
-use Rattle.model.specs.Words.{capacity, pool, root, freeCount, part, start}
-use Rattle.model.specs.Reading.{rootEntries, rootNodes}
+use lib.ListN.{length, drop, length-append}
+use Rattle.model.specs.Words.{capacity, pool, root, freeCount, start}
 use Rattle.model.specs.Refusals.{Answer, result, refused, Outcome}
 use Rattle.model.specs.Create.{create}
 use Rattle.model.specs.Append.{insertRowPage}
 use Rattle.model.specs.Prune.{pruneCheckpointPrefix}
 use Rattle.model.specs.LeafWalk.{seek}
 use Rattle.model.specs.Release.{Released, destroy, destroyEmpty}
-use Rattle.model.specs.Ledger.{Range, Ledger, emptyLedger, ledgerEnd, ledgerAppend, Cut, refuses, leaves, ledgerCut}
+use Rattle.model.specs.Ledger.{Ledger, emptyLedger, ledgerEnd, ledgerAppend, Cut, refuses, leaves, ledgerCut}
 use Rattle.formed.specs.Holds.{Holds}
 use Rattle.formed.proofs.Bridge.{formed-of}
 use Rattle.formed.proofs.Check.{accepted}
 use Rattle.formed.proofs.Entries.{from-length}
 use Rattle.formed.proofs.FindLaw.{find-law}
-use Rattle.growth.specs.Inserted.{verdict}
 use Rattle.growth.proofs.Insert.{insert-keeps}
 use Rattle.growth.proofs.Verdict.{verdict-five}
 use Rattle.ledger.specs.Sizes.{treeHeight, treeNodes, neededNodes}
-use Rattle.ledger.specs.Laws.{InsertLaw, PruneLaw}
+use Rattle.ledger.specs.Laws.{PruneLaw}
 use Rattle.ledger.proofs.Calls.{create-law, insert-law, prune-law}
 use Rattle.cursor.proofs.Walk.{walk-law, walk-from}
-use Rattle.history.specs.Calls.{Hand, Call, append, lookup, prune, seekRow, nextLeaf, release, releaseEmpty, check, Reply, reply, State, holding, closed, ifDone, cutLedger, following, Place, run}
+use Rattle.history.specs.Calls.{Hand, Call, append, lookup, prune, seekRow, nextLeaf, release, releaseEmpty, check, Reply, reply, State, holding, closed, ifDone, following, History, Place, run}
 use Rattle.history.specs.Histories.{Told, Holding, Closed, Kept}
 use Rattle.history.proofs.Releasing.{closed-of, Decided, below, short, good, decide, DecidedEmpty, filled, bare, decide-empty}
 use Rattle.history.proofs.Next.{next-law}
 use Rattle.history.proofs.Among.{result-not, walk-among}
-use Rattle.history.proofs.Refusing.{refusal-is}
+use Rattle.history.proofs.Refusing.{CutFits, cut-fits, refusal-is}
 
 -- an append takes the nodes it needs from the chain
 taken : (w : List ℕ) (l : Ledger) → Holds w l → (k x : ℕ) (a : List ℕ) → insertRowPage w k x .answer ≡ result a → freeCount (insertRowPage w k x .words) + neededNodes w ≡ freeCount w
@@ -99,10 +97,12 @@ module _ (w : List ℕ) (l : Ledger) (H : Holds w l) where
   kept-append k x (result v) e = holding-of (insertRowPage w k x .words) (ledgerAppend l k x) (insert-law w l H k x .accepted v e)
   kept-append k x (refused a d) e = stays (insertRowPage w k x .words) (insert-law w l H k x .refusal a d e)
 
-  kept-prune : (s e : ℕ) (ids : List ℕ) (c : Cut) → PruneLaw w e ids c (pruneCheckpointPrefix w s e ids) → Kept (pruneCheckpointPrefix w s e ids .words) (holding (cutLedger l e c))
-  unfolding Kept cutLedger PruneLaw
-  kept-prune s e ids (refuses a d) p = stays (pruneCheckpointPrefix w s e ids .words) (ap (λ (o : Outcome). o .words) p)
-  kept-prune s e ids (leaves gs) p = holding-of (pruneCheckpointPrefix w s e ids .words) (record { start = e; ranges = gs }) (p .holds)
+  kept-prune : (s e : ℕ) (ids : List ℕ) (c : Cut) → CutFits (drop (length ids) (l .ranges)) c → PruneLaw w e ids c (pruneCheckpointPrefix w s e ids)
+      → Kept (pruneCheckpointPrefix w s e ids .words) (holding (ifDone (pruneCheckpointPrefix w s e ids .answer) (record { start = e; ranges = drop (length ids) (l .ranges) }) l))
+  unfolding Kept ifDone PruneLaw CutFits
+  kept-prune s e ids (refuses a d) i p = rw p (holding-of w l H)
+  kept-prune s e ids (leaves gs) i p =
+      rw (p .answer, ← i) (holding-of (pruneCheckpointPrefix w s e ids .words) (record { start = e; ranges = gs }) (p .holds))
 
   kept-release : (v : ℕ) (x : List ℕ) → Decided w l H v x → Kept (destroy w v x .words) (ifDone (destroy w v x .answer) closed (holding l))
   unfolding Kept ifDone
@@ -119,7 +119,7 @@ module _ (w : List ℕ) (l : Ledger) (H : Holds w l) where
   unfolding reply following Kept
   kept-held m (append k x) = kept-append k x (insertRowPage w k x .answer) refl
   kept-held m (lookup q) = holding-of w l H
-  kept-held m (prune s e ids) = kept-prune s e ids (ledgerCut l s e ids) (prune-law w l H s e ids)
+  kept-held m (prune s e ids) = kept-prune s e ids (ledgerCut l s e ids) (cut-fits l s e ids) (prune-law w l H s e ids)
   kept-held m (seekRow q) = holding-of w l H
   kept-held m nextLeaf = holding-of w l H
   kept-held m (release v) = kept-release v (m .pages) (decide w l H v (m .pages))
@@ -136,7 +136,7 @@ kept-step w (holding l) K m c = kept-held w l (K .holds) m c
 kept-step w closed K m c = subst Closed (sym (same-words w K m c)) K
 
 -- from any place on
-pub kept-run : (p : Place) → Kept (p .words) (p .state) → (cs : List (Hand × Call)) → Kept (run p cs .words) (run p cs .state)
+pub kept-run : (p : Place) → Kept (p .words) (p .state) → (cs : History) → Kept (run p cs .words) (run p cs .state)
 unfolding run
 kept-run p K [] = K
 kept-run p K ((m, c) ∷ cs) =
@@ -146,7 +146,7 @@ kept-run p K ((m, c) ∷ cs) =
 -- The theorem. From an accepted create, on a lent slice of any former contents, after any calls with any arguments,
 -- accepted or refused: the store holds the ledger that the calls' answers make, or it was released; and each further
 -- call answers and leaves what `Kept` says.
-pub histories : (w : List ℕ) (C P s : ℕ) → create w C P s .answer ≡ result [] → (cs : List (Hand × Call))
+pub histories : (w : List ℕ) (C P s : ℕ) → create w C P s .answer ≡ result [] → (cs : History)
     → (let p = run (record { words = create w C P s .words; state = holding (emptyLedger s) }) cs in Kept (p .words) (p .state))
 unfolding Kept
 histories w C P s e cs =

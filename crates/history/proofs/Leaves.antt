@@ -1,16 +1,15 @@
 -- The leaf that a row reaches, by the ledger: it holds some of the ranges in turn.
 use Prim.Native.Nat.{ℕ, zero, suc, _+_, _<_, _≤_}
 use mathlib.Core.List.{List, [], _∷_, _++_, map, tail, append-nil, append-assoc}
-use mathlib.Core.Bool.{Bool, true, false}
 use mathlib.Core.Path.{_≡_, refl, sym, ap, _∙_, subst}
 use mathlib.Core.Logic.{_⊎_, inl, inr, ⊎-elim}
 use native.Mathlib.Omega.{arith}
 use lib.ListN.{length, length-append}
 use lib.Dec.{eqb, ltb}
 use borrow.Author.Tests.{eq-eqb, ne-eqb, ltb-true, ltb-false}
-use Rattle.model.specs.Words.{capacity, pool, root, part, height, count, start, end, row, child, NONE}
-use Rattle.model.specs.Tree.{Limit, Open, Below, pairsFrom, Level, level, last, overPairs, next, AllSound}
-use Rattle.model.specs.Reading.{Entry, entries, leaf, rootLeaf, toRow, rootEntries}
+use Rattle.model.specs.Words.{capacity, pool, root, height, count, start, end, row, child}
+use Rattle.model.specs.Tree.{Limit, Open, Below, pairsFrom, level, last, overPairs, next, AllSound}
+use Rattle.model.specs.Reading.{Entry, entries, leaf, rootLeaf, toRow}
 use Rattle.model.specs.WellFormed.{WellFormed, EmptyRoot, SoundRoot, emptyTree, soundTree}
 use Rattle.model.specs.Ledger.{Range, Ledger, endFrom, walkFrom}
 use Rattle.model.specs.LeafWalk.{isLast}
@@ -26,10 +25,10 @@ use Rattle.formed.proofs.Rooted.{empty-entries}
 use Rattle.growth.specs.Needed.{entriesEnd}
 use Rattle.ledger.proofs.Calls.{ends}
 use Rattle.cursor.specs.Walking.{LeafAt, leaves, storeLeaves}
-use Rattle.cursor.proofs.Lined.{Good, Lined, Split, chosenIn, lined-good, lined-rest, lowOf, split}
-use Rattle.cursor.proofs.Chosen.{leafOf, store-full, store-lined, store-reach}
+use Rattle.cursor.proofs.Lined.{Good, Lined, chosenIn, lined-good, lined-rest, lowOf, split}
+use Rattle.cursor.proofs.Chosen.{leafOf, store-lined, store-reach}
 use Rattle.cursor.proofs.Walk.{lowPage, leaf-joined, from-walk}
-use Rattle.history.specs.Histories.{leafEnd}
+use Rattle.history.specs.Laws.{leafEnd}
 
 -- The entries of a tree, leaf by leaf -----------------------------------------------------------------------
 

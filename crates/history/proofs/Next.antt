@@ -1,18 +1,18 @@
 -- Next on a store that holds a ledger: 13, none if done, or a leaf.
 use Prim.Native.Nat.{ℕ, zero, suc, _+_, _<_, _≤_}
 use mathlib.Core.List.{List, [], _∷_, _++_, map}
-use mathlib.Core.Bool.{Bool, true, false}
-use mathlib.Core.Path.{_≡_, refl, sym, ap, _∙_, subst}
+use mathlib.Core.Bool.{true, false}
+use mathlib.Core.Path.{_≡_, refl, ap, _∙_}
 use mathlib.Core.Logic.{_⊎_, inl, inr}
 use native.Mathlib.Omega.{arith}
 use lib.ListN.{length, drop}
-use lib.Dec.{ltb, eqb}
+use lib.Dec.{ltb}
 use borrow.Author.Tests.{le-ltb, lt-ltb, ltb-true, ltb-false}
-use Rattle.model.specs.Words.{fill, capacity, pool, root, part, count, start, end, row, child}
+use Rattle.model.specs.Words.{fill, capacity, count, start, end, row, child}
 use Rattle.model.specs.Tree.{pairsFrom}
-use Rattle.model.specs.Reading.{Reached, leaf, rootLeaf, toRow}
+use Rattle.model.specs.Reading.{leaf}
 use Rattle.model.specs.Refusals.{Answer, result, refused}
-use Rattle.model.specs.Ledger.{Range, Ledger, endFrom, walkFrom}
+use Rattle.model.specs.Ledger.{Ledger, endFrom, walkFrom}
 use Rattle.model.specs.LeafWalk.{Stepped, cursorAt, pageEntry, records, isLast, given, nextLeafOf}
 use Rattle.model.specs.declared.node.PageEntry.{PageEntry}
 use Rattle.model.specs.declared.cursor.RowPageIndexMemCursor.{RowPageIndexMemCursor}
@@ -22,7 +22,7 @@ use Rattle.formed.proofs.Opens.{goes-on}
 use Rattle.listing.proofs.Filling.{length-records}
 use Rattle.destroy.proofs.Filling.{fill-is}
 use Rattle.history.specs.Calls.{Hand, Reply, nextLeaf, reply}
-use Rattle.history.specs.Histories.{leafEnd, GivesLeaf, NextLaw}
+use Rattle.history.specs.Laws.{leafEnd, GivesLeaf, NextLaw}
 use Rattle.history.proofs.Leaves.{Spot, spot}
 
 abbrev entryOf : ℕ × ℕ → PageEntry

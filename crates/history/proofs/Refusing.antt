@@ -1,26 +1,25 @@
 -- Which refusals a store that holds a ledger gives: never 1, 2 or 3; 6 at height 31 only; 5 for want of nodes; and a
 -- refusal changes nothing that was lent.
-use Prim.Native.Nat.{ℕ, suc, _+_, _<_, _≤_}
+use Prim.Native.Nat.{ℕ, _+_, _<_}
 use mathlib.Core.List.{List, [], _∷_}
 use mathlib.Core.Bool.{Bool, true, false, _&&_, _||_}
-use mathlib.Core.Path.{_≡_, refl, sym, ap, _∙_, subst}
-use mathlib.Core.Logic.{_⊎_, inl, inr, ⊎-elim}
+use mathlib.Core.Path.{_≡_, refl, sym, ap, _∙_}
+use mathlib.Core.Logic.{⊎-elim}
 use native.Mathlib.Omega.{arith}
-use lib.ListN.{length}
+use lib.ListN.{length, drop}
 use lib.Dec.{leb, ltb, eqb}
-use borrow.Author.Tests.{lt-ltb, ltb-true, eqb-true, le-ltb, ne-eqb}
+use borrow.Author.Tests.{ltb-true, eqb-true}
 use Rattle.model.specs.Words.{pick, capacity, freeCount, rowLimit, maxHeight}
-use Rattle.model.specs.Refusals.{Answer, result, refused, Outcome}
+use Rattle.model.specs.Refusals.{Answer, result, refused}
 use Rattle.model.specs.Append.{insertRowPage}
 use Rattle.model.specs.Prune.{pruneCheckpointPrefix}
-use Rattle.model.specs.Release.{Released, destroy, destroyEmpty}
 use Rattle.model.specs.Ledger.{Range, Ledger, findFrom, ledgerFind, ledgerEnd, Cut, refuses, leaves, cutFrom, ledgerCut}
 use Rattle.formed.specs.Holds.{Holds}
 use Rattle.formed.proofs.Check.{accepted}
 use Rattle.formed.proofs.FindLaw.{find-law}
-use Rattle.growth.specs.Inserted.{verdict, Passes}
-use Rattle.ledger.specs.Sizes.{treeHeight, treeNodes, neededNodes}
-use Rattle.ledger.specs.Laws.{InsertLaw, PruneLaw}
+use Rattle.growth.specs.Inserted.{verdict}
+use Rattle.ledger.specs.Sizes.{treeHeight, neededNodes}
+use Rattle.ledger.specs.Laws.{PruneLaw}
 use Rattle.ledger.proofs.Calls.{insert-law, prune-law}
 use Rattle.history.specs.Calls.{Hand, Call, append, lookup, prune, seekRow, nextLeaf, release, releaseEmpty, check, Reply, reply}
 use Rattle.history.proofs.Releasing.{Decided, below, short, good, decide, DecidedEmpty, filled, bare, decide-empty}
@@ -31,26 +30,27 @@ pick-both : {A : Type 0} (Q : A → Type 0) (t : Bool) (a b : A) → (t ≡ true
 pick-both Q true a b f g = f refl
 pick-both Q false a b f g = g refl
 
--- Cuts: 7 to 11 --------------------------------------------------------------------------------------------
+-- Cuts: 7 to 11, or the ranges named go --------------------------------------------------------------------
 
-unfoldable FromSeven : Cut → Type 0
-FromSeven (refuses a d) = 6 < a
-FromSeven (leaves gs) = Unit {0}
+unfoldable pub CutFits : List Range → Cut → Type 0
+CutFits rest (refuses a d) = 6 < a
+CutFits rest (leaves gs) = gs ≡ rest
 
-cut-from : (e p c : ℕ) (ids : List ℕ) (gs : List Range) → FromSeven (cutFrom e p c ids gs)
-unfolding cutFrom FromSeven
-cut-from e p c [] gs = pick-both FromSeven (eqb c e) (leaves gs) (refuses 10 p) (λ t. tt) (λ t. omega arith)
+cut-from : (e p c : ℕ) (ids : List ℕ) (gs : List Range) → CutFits (drop (length ids) gs) (cutFrom e p c ids gs)
+unfolding cutFrom CutFits
+cut-from e p c [] gs = pick-both (CutFits gs) (eqb c e) (leaves gs) (refuses 10 p) (λ t. refl) (λ t. omega arith)
 cut-from e p c (x ∷ ids) [] = omega arith
 cut-from e p c (x ∷ ids) (g ∷ gs) =
-    pick-both FromSeven (eqb (g .page) x) _ (refuses 9 p)
-    (λ t. pick-both FromSeven (leb (g .end) e) _ (refuses 10 p) (λ u. cut-from e (p + 1) (g .end) ids gs) (λ u. omega arith))
+    pick-both (CutFits (drop (length ids) gs)) (eqb (g .page) x) _ (refuses 9 p)
+    (λ t. pick-both (CutFits (drop (length ids) gs)) (leb (g .end) e) _ (refuses 10 p) (λ u. cut-from e (p + 1) (g .end) ids gs) (λ u. omega arith))
     (λ t. omega arith)
 
-cut-seven : (l : Ledger) (s e : ℕ) (ids : List ℕ) → FromSeven (ledgerCut l s e ids)
-unfolding ledgerCut FromSeven
-cut-seven l s e ids =
-    pick-both FromSeven (eqb (length ids) 0 || leb e s) (refuses 7 0) _ (λ t. omega arith)
-    (λ t. pick-both FromSeven (eqb s (l .start)) _ (refuses 8 (l .start)) (λ u. cut-from e 0 (l .start) ids (l .ranges)) (λ u. omega arith))
+pub cut-fits : (l : Ledger) (s e : ℕ) (ids : List ℕ) → CutFits (drop (length ids) (l .ranges)) (ledgerCut l s e ids)
+unfolding ledgerCut CutFits
+cut-fits l s e ids =
+    let Q = CutFits (drop (length ids) (l .ranges)) in
+    pick-both Q (eqb (length ids) 0 || leb e s) (refuses 7 0) _ (λ t. omega arith)
+    (λ t. pick-both Q (eqb s (l .start)) _ (refuses 8 (l .start)) (λ u. cut-from e 0 (l .start) ids (l .ranges)) (λ u. omega arith))
 
 -- Appends: 4, 6, 5 -----------------------------------------------------------------------------------------
 
@@ -120,10 +120,10 @@ module _ (w : List ℕ) (l : Ledger) (H : Holds w l) (m : Hand) where
       go (refused a d) e q f = refusing a d q (rw (e, f a d e))
 
   decides-prune : (s e : ℕ) (ids : List ℕ) → Decides (prune s e ids)
-  unfolding reply FromSeven PruneLaw
-  decides-prune s e ids = go (ledgerCut l s e ids) (cut-seven l s e ids) (prune-law w l H s e ids)
+  unfolding reply CutFits PruneLaw
+  decides-prune s e ids = go (ledgerCut l s e ids) (cut-fits l s e ids) (prune-law w l H s e ids)
     where
-      go : (c : Cut) → FromSeven c → PruneLaw w e ids c (pruneCheckpointPrefix w s e ids) → Decides (prune s e ids)
+      go : (c : Cut) → CutFits (drop (length ids) (l .ranges)) c → PruneLaw w e ids c (pruneCheckpointPrefix w s e ids) → Decides (prune s e ids)
       go (refuses a d) h p = refusing a d (fair a d h) (rw p)
       go (leaves gs) h p = accepts _ (p .answer)
 

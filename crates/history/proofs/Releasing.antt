@@ -1,12 +1,12 @@
 -- Release on a store that holds a ledger: 12 and 13 as the ledger and the list decide, never 2.
-use Prim.Native.Nat.{ℕ, suc, _+_, _<_, _≤_}
+use Prim.Native.Nat.{ℕ, _+_}
 use mathlib.Core.List.{List, [], _∷_}
-use mathlib.Core.Bool.{Bool, true, false}
+use mathlib.Core.Bool.{true, false}
 use mathlib.Core.Path.{_≡_, refl, sym, ap, _∙_, subst}
 use native.Mathlib.Omega.{arith}
 use lib.ListN.{length}
 use lib.Dec.{leb, ltb, eqb}
-use borrow.Author.Tests.{le-leb, le-ltb, leb-true, leb-false, ltb-false, eqb-true, eqb-false, eq-eqb}
+use borrow.Author.Tests.{le-leb, le-ltb, leb-true, ltb-false, eqb-true, eqb-false}
 use Rattle.model.specs.Words.{pick, fill, capacity, pool, root, freeHead, freeCount, Header}
 use Rattle.model.specs.Reading.{Fault, clear, at, unlessBad, pageIds, rootEntries, rootNodes}
 use Rattle.model.specs.Refusals.{Answer, result, refused, Outcome}
@@ -22,8 +22,8 @@ use Rattle.ledger.specs.Sizes.{treeNodes}
 use Rattle.destroy.specs.Ledgers.{AtOrAbove, Releases}
 use Rattle.destroy.proofs.ByLedger.{releases}
 use Rattle.destroy.proofs.EmptyLedger.{empty-released, filled-refused}
-use Rattle.history.specs.Calls.{Hand, Call, Reply}
-use Rattle.history.specs.Histories.{firstBelow, ledgerRelease, Closed}
+use Rattle.history.specs.Laws.{firstBelow, ledgerRelease}
+use Rattle.history.specs.Histories.{Closed}
 use Rattle.history.proofs.Shut.{shut-header, shut-told}
 
 low-is : (v s : ℕ) (gs : List Range) → firstLow v (entriesFrom s gs) ≡ firstBelow v (walkFrom s gs)

@@ -1,6 +1,6 @@
 -- A closed store: each call that is lent it answers 3 and changes nothing.
-use Prim.Native.Nat.{ℕ, _<_, _≤_}
-use mathlib.Core.List.{List, [], _∷_}
+use Prim.Native.Nat.{ℕ}
+use mathlib.Core.List.{List}
 use mathlib.Core.Bool.{true}
 use mathlib.Core.Path.{_≡_, refl, ap}
 use mathlib.Core.Logic.{_⊎_, inl, inr}
@@ -14,7 +14,6 @@ use Rattle.model.specs.Append.{insertRowPage}
 use Rattle.model.specs.Prune.{pruneCheckpointPrefix}
 use Rattle.model.specs.LeafWalk.{Stepped, nextLeafOf}
 use Rattle.model.specs.Release.{Released, destroy, destroyEmpty}
-use Rattle.model.specs.FullCheck.{fullCheck}
 use Rattle.model.specs.declared.node.PageEntry.{PageEntry}
 use Rattle.model.specs.declared.cursor.RowPageIndexMemCursor.{RowPageIndexMemCursor}
 use Rattle.formed.proofs.Chains.{chain-low}

@@ -1,6 +1,7 @@
 -- A history: calls with any arguments on one store, what they answer and leave, and the ledger beside them.
 use Prim.Native.Nat.{ℕ}
 use mathlib.Core.List.{List, [], _∷_}
+use lib.ListN.{length, drop}
 use Rattle.model.specs.Refusals.{Answer, result, refused}
 use Rattle.model.specs.Lookup.{tryFindRow}
 use Rattle.model.specs.Append.{insertRowPage}
@@ -8,7 +9,7 @@ use Rattle.model.specs.Prune.{pruneCheckpointPrefix}
 use Rattle.model.specs.LeafWalk.{seek, nextLeafOf}
 use Rattle.model.specs.Release.{destroy, destroyEmpty}
 use Rattle.model.specs.FullCheck.{fullCheck}
-use Rattle.model.specs.Ledger.{Ledger, ledgerAppend, Cut, refuses, leaves, ledgerCut}
+use Rattle.model.specs.Ledger.{Ledger, ledgerAppend}
 use Rattle.model.specs.declared.node.PageEntry.{PageEntry}
 use Rattle.model.specs.declared.cursor.RowPageIndexMemCursor.{RowPageIndexMemCursor}
 
@@ -59,28 +60,26 @@ unfoldable pub ifDone : {A : Type 0} → Answer → A → A → A
 ifDone (result v) a b = a
 ifDone (refused n d) a b = b
 
--- the ledger that a cut ending at e leaves
-unfoldable pub cutLedger : Ledger → ℕ → Cut → Ledger
-cutLedger l e (refuses n d) = l
-cutLedger l e (leaves gs) = record { start = e; ranges = gs }
-
--- after a call with this answer
+-- after a call with this answer: an accepted cut takes away the ranges that were named
 unfoldable pub following : State → Call → Answer → State
 following closed c a = closed
 following (holding l) (append k x) a = holding (ifDone a (ledgerAppend l k x) l)
 following (holding l) (lookup q) a = holding l
-following (holding l) (prune s e ids) a = holding (cutLedger l e (ledgerCut l s e ids))
+following (holding l) (prune s e ids) a = holding (ifDone a (record { start = e; ranges = drop (length ids) (l .ranges) }) l)
 following (holding l) (seekRow q) a = holding l
 following (holding l) nextLeaf a = holding l
 following (holding l) (release v) a = ifDone a closed (holding l)
 following (holding l) releaseEmpty a = ifDone a closed (holding l)
 following (holding l) check a = holding l
 
+abbrev pub History : Type 0
+History = List (Hand × Call)
+
 -- where a history leads
 pub record Place : Type 0 where
   pub words : List ℕ
   pub state : State
 
-unfoldable pub run : Place → List (Hand × Call) → Place
+unfoldable pub run : Place → History → Place
 run p [] = p
 run p ((m, c) ∷ cs) = let r = reply (p .words) m c in run (record { words = r .words; state = following (p .state) c (r .answer) }) cs

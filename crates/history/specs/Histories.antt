@@ -1,76 +1,25 @@
 -- Demand 3: what a store stands for after any history, and what each call then answers and leaves.
-use Prim.Native.Nat.{ℕ, suc, _+_, _<_, _≤_}
+use Prim.Native.Nat.{ℕ, _+_, _<_, _≤_}
 use mathlib.Core.List.{List, [], _∷_, _++_, map}
-use mathlib.Core.Bool.{true, false}
+use mathlib.Core.Bool.{false}
 use mathlib.Core.Path.{_≡_}
 use mathlib.Core.Logic.{_⊎_}
 use lib.ListN.{length, drop}
-use lib.Dec.{leb, ltb, eqb}
-use Rattle.model.specs.Words.{pick, capacity, pool, root, freeHead, freeCount, NONE, maxHeight, Header}
-use Rattle.model.specs.Reading.{Fault, clear, at, unlessBad, occ}
-use Rattle.model.specs.Refusals.{Answer, result, refused}
+use lib.Dec.{eqb}
+use Rattle.model.specs.Words.{pick, capacity, pool, root, freeHead, freeCount, maxHeight, Header}
+use Rattle.model.specs.Reading.{occ}
+use Rattle.model.specs.Refusals.{result, refused}
 use Rattle.model.specs.WellFormed.{Chain}
-use Rattle.model.specs.LeafWalk.{cursorAt, seek, pageEntry}
-use Rattle.model.specs.Ledger.{Range, Ledger, ledgerFind, endFrom, ledgerEnd, ledgerCut, walkFrom, ledgerWalk}
+use Rattle.model.specs.LeafWalk.{cursorAt, seek}
+use Rattle.model.specs.Ledger.{Range, Ledger, ledgerFind, ledgerEnd, ledgerCut, ledgerWalk}
 use Rattle.model.specs.declared.node.PageEntry.{PageEntry}
-use Rattle.model.specs.declared.cursor.RowPageIndexMemCursor.{RowPageIndexMemCursor}
 use Rattle.formed.specs.Holds.{Holds}
 use Rattle.growth.specs.Inserted.{verdict, Passes}
 use Rattle.ledger.specs.Sizes.{treeHeight, treeNodes, neededNodes}
 use Rattle.ledger.specs.Laws.{PruneLaw}
-use Rattle.cursor.specs.Walking.{leafCount, firstPairs, Gives, From}
-use Rattle.history.specs.Calls.{Hand, Call, append, lookup, prune, seekRow, nextLeaf, release, releaseEmpty, check, Reply, reply, State, holding, closed, Place}
-
--- Next -----------------------------------------------------------------------------------------------------------
-
--- "that leaf's end"; "an empty root leaf ends at NONE"
-unfoldable pub leafEnd : ℕ → List Range → ℕ
-leafEnd s [] = NONE
-leafEnd s (g ∷ gs) = endFrom s (g ∷ gs)
-
--- the leaf given for the cursor's row holds some ranges in turn, from row s on
-pub record GivesLeaf (l : Ledger) (m : Hand) (r : Reply) : Type 0 where
-  pub before : List Range
-  pub those : List Range
-  pub rest : List Range
-  pub is : l .ranges ≡ before ++ (those ++ rest)
-  pub s : ℕ
-  pub begins : s ≡ endFrom (l .start) before
-  pub answer : r .answer ≡ result (s ∷ leafEnd s those ∷ length those ∷ [])
-  pub cursor : r .hand .cursor ≡ cursorAt (leafEnd s those) (eqb (length rest) 0)
-  pub records : r .hand .records ≡ map (λ (p : ℕ × ℕ). pageEntry (p .0) (p .1)) (walkFrom s those) ++ drop (length those) (m .records)
-  -- "below the start: the first; past the end: the last; empty: the empty root"
-  pub low : (before ≡ []) ⊎ (s ≤ m .cursor .«row_id» .0)
-  pub high : (rest ≡ []) ⊎ (m .cursor .«row_id» .0 < leafEnd s those)
-  pub some : those ≡ [] → l .ranges ≡ []
-
--- "Next: 13, none if done"
-pub record NextLaw (w : List ℕ) (l : Ledger) (m : Hand) (r : Reply) : Type 0 where
-  pub short : length (m .records) < capacity w → r .answer ≡ refused 13 (capacity w)
-  pub none : capacity w ≤ length (m .records) → m .cursor .done ≡ true → r ≡ record { answer = result []; words = w; hand = m }
-  pub gives : capacity w ≤ length (m .records) → m .cursor .done ≡ false → GivesLeaf l m r
-
--- A walk from a cursor, among other calls that leave the store w as it is: n steps give a leaf each, the one after them
--- gives none, and the records of the leaves, joined, are these pairs.
-pub data Walks (w : List ℕ) : RowPageIndexMemCursor → List (Hand × Call) → List (ℕ × ℕ) → ℕ → Type 0 where
-  between : (c : RowPageIndexMemCursor) (m : Hand) (b : Call) (cs : List (Hand × Call)) (ps : List (ℕ × ℕ)) (n : ℕ) → reply w m b .words ≡ w
-      → Walks w c cs ps n → Walks w c ((m, b) ∷ cs) ps n
-  gave : (c : RowPageIndexMemCursor) (m : Hand) (cs : List (Hand × Call)) (s e k : ℕ) (ps : List (ℕ × ℕ)) (n : ℕ) → m .cursor ≡ c
-      → reply w m nextLeaf .answer ≡ result (s ∷ e ∷ k ∷ []) → Walks w (reply w m nextLeaf .hand .cursor) cs ps n
-      → Walks w c ((m, nextLeaf) ∷ cs) (firstPairs k (reply w m nextLeaf .hand .records) ++ ps) (suc n)
-  over : (c : RowPageIndexMemCursor) (m : Hand) (cs : List (Hand × Call)) → m .cursor ≡ c → reply w m nextLeaf .answer ≡ result []
-      → Walks w c ((m, nextLeaf) ∷ cs) [] 0
-
--- Release: 12 with the first row below pivot v, 13 where fewer than the ledger's pages fit --------------------------
-
-unfoldable pub firstBelow : ℕ → List (ℕ × ℕ) → Fault
-firstBelow v [] = clear
-firstBelow v (p ∷ ps) = pick (ltb (p .0) v) (at (p .0)) (firstBelow v ps)
-
-unfoldable pub ledgerRelease : Ledger → ℕ → ℕ → ℕ → Answer
-ledgerRelease l v nodes fit =
-    let n = length (l .ranges) in
-    unlessBad (firstBelow v (ledgerWalk l)) (refused 12) (pick (leb n fit) (result (nodes ∷ n ∷ [])) (refused 13 n))
+use Rattle.cursor.specs.Walking.{leafCount, Gives, From}
+use Rattle.history.specs.Calls.{Hand, Call, append, lookup, prune, seekRow, nextLeaf, release, releaseEmpty, check, Reply, reply, State, holding, closed, History}
+use Rattle.history.specs.Laws.{NextLaw, Walks, ledgerRelease}
 
 -- Each call on the store w with ledger l ---------------------------------------------------------------------------
 
@@ -104,7 +53,7 @@ pub record Holding (w : List ℕ) (l : Ledger) : Type 0 where
   -- whole walks, with no change of the store between their steps: from the start, from any row, and among other calls
   pub walk : (q : ℕ) (x : List PageEntry) → q ≤ l .start → capacity w ≤ length x → Gives w (seek q) x (ledgerWalk l) (leafCount w)
   pub from : (q : ℕ) (x : List PageEntry) → capacity w ≤ length x → From w l q x
-  pub among : (q : ℕ) (x : List PageEntry) → capacity w ≤ length x → (cs : List (Hand × Call)) (ps : List (ℕ × ℕ)) (n : ℕ) → Walks w (seek q) cs ps n → Gives w (seek q) x ps n
+  pub among : (q : ℕ) (x : List PageEntry) → capacity w ≤ length x → (cs : History) (ps : List (ℕ × ℕ)) (n : ℕ) → Walks w (seek q) cs ps n → Gives w (seek q) x ps n
 
 -- After a release: every node is in the chain, once; each call that is lent the store answers 3 and changes nothing ----
 
