@@ -12,7 +12,7 @@ use Rattle.model.specs.Append.{insertRowPage}
 use Rattle.model.specs.Prune.{pruneCheckpointPrefix}
 use Rattle.model.specs.LeafWalk.{seek}
 use Rattle.model.specs.Release.{Released, destroy, destroyEmpty}
-use Rattle.model.specs.Ledger.{Ledger, emptyLedger, ledgerEnd, ledgerAppend, Cut, refuses, leaves, ledgerCut}
+use Rattle.model.specs.Ledger.{Range, Ledger, emptyLedger, ledgerEnd, ledgerAppend, Cut, refuses, leaves, ledgerCut}
 use Rattle.formed.specs.Holds.{Holds}
 use Rattle.formed.proofs.Bridge.{formed-of}
 use Rattle.formed.proofs.Check.{accepted}
@@ -102,7 +102,9 @@ module _ (w : List ℕ) (l : Ledger) (H : Holds w l) where
   unfolding Kept ifDone PruneLaw CutFits
   kept-prune s e ids (refuses a d) i p = rw p (holding-of w l H)
   kept-prune s e ids (leaves gs) i p =
-      rw (p .answer, ← i) (holding-of (pruneCheckpointPrefix w s e ids .words) (record { start = e; ranges = gs }) (p .holds))
+      rw (p .answer)
+      (subst (λ (fs : List Range). Holding (pruneCheckpointPrefix w s e ids .words) (record { start = e; ranges = fs })) i
+      (holding-of (pruneCheckpointPrefix w s e ids .words) (record { start = e; ranges = gs }) (p .holds)))
 
   kept-release : (v : ℕ) (x : List ℕ) → Decided w l H v x → Kept (destroy w v x .words) (ifDone (destroy w v x .answer) closed (holding l))
   unfolding Kept ifDone
