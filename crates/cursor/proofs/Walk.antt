@@ -274,10 +274,10 @@ pub walk-never : (w : List ℕ) (l : Ledger) → Holds w l → (c : RowPageIndex
     → (ys : List ℕ) × (nextLeafOf w c list .answer ≡ result ys)
 walk-never w l H c list room = never-refused w (H .formed) c list room
 
-none-some : {s e k : ℕ} → result [] ≡ result (s ∷ e ∷ k ∷ []) → ⊥
+pub none-some : {s e k : ℕ} → result [] ≡ result (s ∷ e ∷ k ∷ []) → ⊥
 none-some {s} {e} {k} p = let z : [] ≡ s ∷ e ∷ k ∷ [] = cc in absurd (omega (arith, ap length z))
 
-third : {s e k s₂ e₂ k₂ : ℕ} → result (s ∷ e ∷ k ∷ []) ≡ result (s₂ ∷ e₂ ∷ k₂ ∷ []) → k ≡ k₂
+pub third : {s e k s₂ e₂ k₂ : ℕ} → result (s ∷ e ∷ k ∷ []) ≡ result (s₂ ∷ e₂ ∷ k₂ ∷ []) → k ≡ k₂
 third e = cc
 
 -- a walk is one: the steps decide the records and how many leaves there are

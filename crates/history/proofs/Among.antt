@@ -19,20 +19,14 @@ use Rattle.model.proofs.Tests.{by-test}
 use Rattle.formed.specs.Holds.{Holds}
 use Rattle.listing.proofs.Filling.{length-fill}
 use Rattle.cursor.specs.Walking.{firstPairs, Gives, one, ended}
-use Rattle.cursor.proofs.Walk.{read}
-use Rattle.history.specs.Calls.{Hand, reply, History}
+use Rattle.cursor.proofs.Walk.{read, none-some, third}
+use Rattle.history.specs.Calls.{Lent, reply, History}
 use Rattle.history.specs.Laws.{Walks, between, gave, over}
 use Rattle.history.proofs.Leaves.{spot}
 use Rattle.history.proofs.Next.{next-short, next-none, next-leaf, gives-leaf}
 
 pub result-not : (v : List ℕ) (a d : ℕ) → result v ≡ refused a d → ⊥
 result-not v a d e = let z : _≡_ {A = ℕ} 0 1 = cc in absurd (omega arith)
-
-some-none : {s e k : ℕ} → result (s ∷ e ∷ k ∷ []) ≡ result [] → ⊥
-some-none {s} {e} {k} p = let z : s ∷ e ∷ k ∷ [] ≡ [] = cc in absurd (omega (arith, ap length z))
-
-third : {s e k s₂ e₂ k₂ : ℕ} → result (s ∷ e ∷ k ∷ []) ≡ result (s₂ ∷ e₂ ∷ k₂ ∷ []) → k ≡ k₂
-third e = cc
 
 module _ (w : List ℕ) (l : Ledger) (H : Holds w l) where
   -- a step's answer, cursor and records are the same with any list that is long enough
@@ -42,8 +36,8 @@ module _ (w : List ℕ) (l : Ledger) (H : Holds w l) where
     pairs : firstPairs k (nextLeafOf w c x .list) ≡ firstPairs k (nextLeafOf w c y .list)
     long : length (nextLeafOf w c x .list) ≡ length x
 
-  abbrev hand : RowPageIndexMemCursor → List PageEntry → Hand
-  hand c x = record { cursor = c; records = x; pages = [] }
+  abbrev lentWith : RowPageIndexMemCursor → List PageEntry → Lent
+  lentWith c x = record { cursor = c; records = x; pages = [] }
 
   both-give : (c : RowPageIndexMemCursor) (y x : List PageEntry) (s e k : ℕ) → c .done ≡ false → capacity w ≤ length y → capacity w ≤ length x → nextLeafOf w c y .answer ≡ result (s ∷ e ∷ k ∷ []) → Alike c y x s e k
   unfolding given
@@ -51,8 +45,8 @@ module _ (w : List ℕ) (l : Ledger) (H : Holds w l) where
       let C = capacity w in
       let S = spot w l H (c .«row_id» .0) in
       let n = S .n in
-      let oy : nextLeafOf w c y ≡ given C w c y (leaf n (S .b)) = next-leaf w l H (hand c y) hy d S in
-      let ox : nextLeafOf w c x ≡ given C w c x (leaf n (S .b)) = next-leaf w l H (hand c x) hx d S in
+      let oy : nextLeafOf w c y ≡ given C w c y (leaf n (S .b)) = next-leaf w l H (lentWith c y) hy d S in
+      let ox : nextLeafOf w c x ≡ given C w c x (leaf n (S .b)) = next-leaf w l H (lentWith c x) hx d S in
       let k-is : count C w n ≡ k = third (sym (ap (λ (r : Stepped). r .answer) oy) ∙ a) in
       let got : (z : List PageEntry) → C ≤ length z → nextLeafOf w c z ≡ given C w c z (leaf n (S .b)) → firstPairs k (nextLeafOf w c z .list) ≡ pairsFrom C w (λ (v : ℕ). v) n 0 (count C w n) =
       λ z hz oz. ap (λ (r : Stepped). firstPairs k (r .list)) oz ∙ ap (λ (j : ℕ). firstPairs j (fill z 0 (records C w n 0 (count C w n)))) (sym k-is) ∙ read C w n (count C w n) z (omega (arith, S .few)) in
@@ -67,14 +61,14 @@ module _ (w : List ℕ) (l : Ledger) (H : Holds w l) where
   long-enough : (c : RowPageIndexMemCursor) (y : List PageEntry) (v : List ℕ) → nextLeafOf w c y .answer ≡ result v → capacity w ≤ length y
   long-enough c y v a =
       by-test (ltb (length y) (capacity w))
-      (λ t. let z = sym a ∙ ap (λ (r : Stepped). r .answer) (next-short w l H (hand c y) (ltb-true (length y) (capacity w) t)) in absurd (result-not v 13 (capacity w) z))
+      (λ t. let z = sym a ∙ ap (λ (r : Stepped). r .answer) (next-short w l H (lentWith c y) (ltb-true (length y) (capacity w) t)) in absurd (result-not v 13 (capacity w) z))
       (λ t. ltb-false (length y) (capacity w) t)
 
   alike : (c : RowPageIndexMemCursor) (y x : List PageEntry) (s e k : ℕ) → capacity w ≤ length x → nextLeafOf w c y .answer ≡ result (s ∷ e ∷ k ∷ []) → Alike c y x s e k
   alike c y x s e k hx a =
       let hy = long-enough c y (s ∷ e ∷ k ∷ []) a in
       by-test (c .done)
-      (λ d. absurd (some-none (sym a ∙ ap (λ (r : Stepped). r .answer) (next-none w l H (hand c y) hy d))))
+      (λ d. absurd (none-some (sym (ap (λ (r : Stepped). r .answer) (next-none w l H (lentWith c y) hy d)) ∙ a)))
       (λ d. both-give c y x s e k d hy hx a)
 
   -- no step after the last
@@ -83,8 +77,8 @@ module _ (w : List ℕ) (l : Ledger) (H : Holds w l) where
   none-left c y x hx a =
       let hy = long-enough c y [] a in
       by-test (c .done)
-      (λ d. next-none w l H (hand c x) hx d)
-      (λ d. absurd (some-none (sym (gives-leaf w l H (hand c y) hy d .answer) ∙ a)))
+      (λ d. next-none w l H (lentWith c x) hx d)
+      (λ d. absurd (none-some (sym a ∙ gives-leaf w l H (lentWith c y) hy d .answer)))
 
   pub walk-among : (c : RowPageIndexMemCursor) (cs : History) (ps : List (ℕ × ℕ)) (n : ℕ) → Walks w c cs ps n → (x : List PageEntry) → capacity w ≤ length x → Gives w c x ps n
   unfolding reply

@@ -24,7 +24,7 @@ use Rattle.ledger.specs.Sizes.{treeHeight, treeNodes, neededNodes}
 use Rattle.ledger.specs.Laws.{PruneLaw}
 use Rattle.ledger.proofs.Calls.{create-law, insert-law, prune-law}
 use Rattle.cursor.proofs.Walk.{walk-law, walk-from}
-use Rattle.history.specs.Calls.{Hand, Call, append, lookup, prune, seekRow, nextLeaf, release, releaseEmpty, check, Reply, reply, State, holding, closed, ifDone, following, History, Place, run}
+use Rattle.history.specs.Calls.{Lent, Call, append, lookup, prune, seekRow, nextLeaf, release, releaseEmpty, check, Reply, reply, State, holding, closed, ifDone, stateAfter, History, Place, run}
 use Rattle.history.specs.Histories.{Told, Holding, Closed, Kept}
 use Rattle.history.proofs.Releasing.{closed-of, Decided, below, short, good, decide, DecidedEmpty, filled, bare, decide-empty}
 use Rattle.history.proofs.Next.{next-law}
@@ -41,7 +41,7 @@ taken w l H k x a e =
 module _ (w : List ℕ) (l : Ledger) (H : Holds w l) where
   -- What each call answers ---------------------------------------------------------------------------------
 
-  told-release : (m : Hand) (v : ℕ) → Told w l m (release v) (reply w m (release v))
+  told-release : (m : Lent) (v : ℕ) → Told w l m (release v) (reply w m (release v))
   unfolding Told reply
   told-release m v = go (decide w l H v (m .pages))
     where
@@ -50,7 +50,7 @@ module _ (w : List ℕ) (l : Ledger) (H : Holds w l) where
       go (short a e) = (ap (λ (o : Released). o .answer) e ∙ sym a, λ v f. absurd (result-not v 13 _ (sym f ∙ ap (λ (o : Released). o .answer) e)))
       go (good a e R) = (ap (λ (o : Released). o .answer) e ∙ sym a, λ v f. R .list)
 
-  told-empty : (m : Hand) → Told w l m releaseEmpty (reply w m releaseEmpty)
+  told-empty : (m : Lent) → Told w l m releaseEmpty (reply w m releaseEmpty)
   unfolding Told reply
   told-empty m = go (decide-empty w l H)
     where
@@ -58,7 +58,7 @@ module _ (w : List ℕ) (l : Ledger) (H : Holds w l) where
       go (filled t e) = ap (λ (o : Outcome). o .answer) e ∙ rw t
       go (bare t e c) = e ∙ rw t
 
-  told : (m : Hand) (c : Call) → Told w l m c (reply w m c)
+  told : (m : Lent) (c : Call) → Told w l m c (reply w m c)
   unfolding Told reply
   told m (append k x) = (insert-law w l H k x .answer, λ a e. taken w l H k x a e)
   told m (lookup q) = find-law w l H q
@@ -117,8 +117,8 @@ module _ (w : List ℕ) (l : Ledger) (H : Holds w l) where
   kept-empty (filled t e) = rw e (holding-of w l H)
   kept-empty (bare t e c) = rw e c
 
-  kept-held : (m : Hand) (c : Call) → Kept (reply w m c .words) (following (holding l) c (reply w m c .answer))
-  unfolding reply following Kept
+  kept-held : (m : Lent) (c : Call) → Kept (reply w m c .words) (stateAfter (holding l) c (reply w m c .answer))
+  unfolding reply stateAfter Kept
   kept-held m (append k x) = kept-append k x (insertRowPage w k x .answer) refl
   kept-held m (lookup q) = holding-of w l H
   kept-held m (prune s e ids) = kept-prune s e ids (ledgerCut l s e ids) (cut-fits l s e ids) (prune-law w l H s e ids)
@@ -128,12 +128,12 @@ module _ (w : List ℕ) (l : Ledger) (H : Holds w l) where
   kept-held m releaseEmpty = kept-empty (decide-empty w l H)
   kept-held m check = holding-of w l H
 
-same-words : (w : List ℕ) → Closed w → (m : Hand) (c : Call) → reply w m c .words ≡ w
+same-words : (w : List ℕ) → Closed w → (m : Lent) (c : Call) → reply w m c .words ≡ w
 unfolding reply
 same-words w K m c = ⊎-elim (λ e. ap (λ (r : Reply). r .words) e) (λ e. ap (λ (b : Call). reply w m b .words) (e .1)) (K .told m c)
 
-kept-step : (w : List ℕ) (s : State) → Kept w s → (m : Hand) (c : Call) → Kept (reply w m c .words) (following s c (reply w m c .answer))
-unfolding Kept following
+kept-step : (w : List ℕ) (s : State) → Kept w s → (m : Lent) (c : Call) → Kept (reply w m c .words) (stateAfter s c (reply w m c .answer))
+unfolding Kept stateAfter
 kept-step w (holding l) K m c = kept-held w l (K .holds) m c
 kept-step w closed K m c = subst Closed (sym (same-words w K m c)) K
 
@@ -143,7 +143,7 @@ unfolding run
 kept-run p K [] = K
 kept-run p K ((m, c) ∷ cs) =
     let r = reply (p .words) m c in
-    kept-run (record { words = r .words; state = following (p .state) c (r .answer) }) (kept-step (p .words) (p .state) K m c) cs
+    kept-run (record { words = r .words; state = stateAfter (p .state) c (r .answer) }) (kept-step (p .words) (p .state) K m c) cs
 
 -- The theorem. From an accepted create, on a lent slice of any former contents, after any calls with any arguments,
 -- accepted or refused: the store holds the ledger that the calls' answers make, or it was released; and each further

@@ -5,3 +5,5 @@ pub mod Next
 pub mod Among
 pub mod Refusing
 pub mod Histories
+pub mod Corollaries
+pub mod Sample

@@ -21,7 +21,7 @@ use Rattle.formed.specs.Holds.{Holds}
 use Rattle.formed.proofs.Opens.{goes-on}
 use Rattle.listing.proofs.Filling.{length-records}
 use Rattle.destroy.proofs.Filling.{fill-is}
-use Rattle.history.specs.Calls.{Hand, Reply, nextLeaf, reply}
+use Rattle.history.specs.Calls.{Lent, Reply, nextLeaf, reply}
 use Rattle.history.specs.Laws.{leafEnd, GivesLeaf, NextLaw}
 use Rattle.history.proofs.Leaves.{Spot, spot}
 
@@ -33,7 +33,7 @@ unfolding records pairsFrom
 records-are C w n i zero = refl
 records-are C w n i (suc k) = ap (λ (t : List PageEntry). pageEntry (row C w n i) (child C w n i) ∷ t) (records-are C w n (i + 1) k)
 
-module _ (w : List ℕ) (l : Ledger) (H : Holds w l) (m : Hand) where
+module _ (w : List ℕ) (l : Ledger) (H : Holds w l) (m : Lent) where
   abbrev C : ℕ
   C = capacity w
 
@@ -96,7 +96,7 @@ module _ (w : List ℕ) (l : Ledger) (H : Holds w l) (m : Hand) where
       }
 
   abbrev asReply : Stepped → Reply
-  asReply o = record { answer = o .answer; words = w; hand = record { cursor = o .cursor; records = o .list; pages = m .pages } }
+  asReply o = record { answer = o .answer; words = w; lent = record { cursor = o .cursor; records = o .list; pages = m .pages } }
 
   pub next-law : NextLaw w l m (reply w m nextLeaf)
   unfolding reply
@@ -108,7 +108,7 @@ module _ (w : List ℕ) (l : Ledger) (H : Holds w l) (m : Hand) where
       }
 
   -- 13, or accepted
-  pub next-decide : (reply w m nextLeaf ≡ record { answer = refused 13 C; words = w; hand = m }) ⊎ ((v : List ℕ) × (reply w m nextLeaf .answer ≡ result v))
+  pub next-decide : (reply w m nextLeaf ≡ record { answer = refused 13 C; words = w; lent = m }) ⊎ ((v : List ℕ) × (reply w m nextLeaf .answer ≡ result v))
   unfolding reply
   next-decide =
       by-test (ltb (length x) C)

@@ -21,7 +21,7 @@ use Rattle.growth.specs.Inserted.{verdict}
 use Rattle.ledger.specs.Sizes.{treeHeight, neededNodes}
 use Rattle.ledger.specs.Laws.{PruneLaw}
 use Rattle.ledger.proofs.Calls.{insert-law, prune-law}
-use Rattle.history.specs.Calls.{Hand, Call, append, lookup, prune, seekRow, nextLeaf, release, releaseEmpty, check, Reply, reply}
+use Rattle.history.specs.Calls.{Lent, Call, append, lookup, prune, seekRow, nextLeaf, release, releaseEmpty, check, Reply, reply}
 use Rattle.history.proofs.Releasing.{Decided, below, short, good, decide, DecidedEmpty, filled, bare, decide-empty}
 use Rattle.history.proofs.Next.{next-decide}
 use Rattle.history.proofs.Among.{result-not}
@@ -94,9 +94,9 @@ find-result s (g ∷ gs) q =
 
 -- Every call -----------------------------------------------------------------------------------------------
 
-module _ (w : List ℕ) (l : Ledger) (H : Holds w l) (m : Hand) where
+module _ (w : List ℕ) (l : Ledger) (H : Holds w l) (m : Lent) where
   abbrev still : ℕ → ℕ → Reply
-  still a d = record { answer = refused a d; words = w; hand = m }
+  still a d = record { answer = refused a d; words = w; lent = m }
 
   abbrev Fair : ℕ → ℕ → Type 0
   Fair a d = Allowed (treeHeight w) (neededNodes w) (freeCount w) a d

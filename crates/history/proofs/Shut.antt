@@ -19,7 +19,7 @@ use Rattle.model.specs.declared.cursor.RowPageIndexMemCursor.{RowPageIndexMemCu
 use Rattle.formed.proofs.Chains.{chain-low}
 use Rattle.formed.proofs.Opens.{header-is}
 use Rattle.formed.proofs.Check.{closed}
-use Rattle.history.specs.Calls.{Hand, Call, append, lookup, prune, seekRow, nextLeaf, release, releaseEmpty, check, Reply, reply}
+use Rattle.history.specs.Calls.{Lent, Call, append, lookup, prune, seekRow, nextLeaf, release, releaseEmpty, check, Reply, reply}
 
 pub shut-header : (w : List ℕ) → Header (capacity w) (pool w) w → root w ≡ pool w → (chain : List ℕ) → Chain (capacity w) (pool w) w (freeHead w) chain → freeCount w ≡ pool w → headerOk w ≡ true
 shut-header w fits e chain linked free =
@@ -33,17 +33,17 @@ module _ (w : List ℕ) (h : headerOk w ≡ true) (e : root w ≡ pool w) where
   outcome a = record { answer = a; words = w }
 
   -- replies
-  abbrev plain : Hand → Outcome → Reply
-  plain m o = record { answer = o .answer; words = o .words; hand = m }
+  abbrev plain : Lent → Outcome → Reply
+  plain m o = record { answer = o .answer; words = o .words; lent = m }
 
-  abbrev asked : Hand → Answer → Reply
-  asked m a = record { answer = a; words = w; hand = m }
+  abbrev asked : Lent → Answer → Reply
+  asked m a = record { answer = a; words = w; lent = m }
 
-  abbrev stepped : Hand → Stepped → Reply
-  stepped m o = record { answer = o .answer; words = w; hand = record { cursor = o .cursor; records = o .list; pages = m .pages } }
+  abbrev stepped : Lent → Stepped → Reply
+  stepped m o = record { answer = o .answer; words = w; lent = record { cursor = o .cursor; records = o .list; pages = m .pages } }
 
-  abbrev emptied : Hand → Released → Reply
-  emptied m o = record { answer = o .answer; words = o .words; hand = record { cursor = m .cursor; records = m .records; pages = o .list } }
+  abbrev emptied : Lent → Released → Reply
+  emptied m o = record { answer = o .answer; words = o .words; lent = record { cursor = m .cursor; records = m .records; pages = o .list } }
 
   shut-find : (q : ℕ) → tryFindRow w q ≡ refused 3 0
   unfolding tryFindRow
@@ -69,7 +69,7 @@ module _ (w : List ℕ) (h : headerOk w ≡ true) (e : root w ≡ pool w) where
   unfolding destroyEmpty
   shut-empty = stops outcome _
 
-  pub shut-told : (m : Hand) (c : Call) → (reply w m c ≡ record { answer = refused 3 0; words = w; hand = m }) ⊎ ((q : ℕ) × (c ≡ seekRow q))
+  pub shut-told : (m : Lent) (c : Call) → (reply w m c ≡ record { answer = refused 3 0; words = w; lent = m }) ⊎ ((q : ℕ) × (c ≡ seekRow q))
   unfolding reply
   shut-told m (append k x) = inl (ap (plain m) (shut-insert k x))
   shut-told m (lookup q) = inl (ap (asked m) (shut-find q))

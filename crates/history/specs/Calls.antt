@@ -14,7 +14,7 @@ use Rattle.model.specs.declared.node.PageEntry.{PageEntry}
 use Rattle.model.specs.declared.cursor.RowPageIndexMemCursor.{RowPageIndexMemCursor}
 
 -- what is lent beside the store, of any contents
-pub record Hand : Type 0 where
+pub record Lent : Type 0 where
   pub cursor : RowPageIndexMemCursor
   pub records : List PageEntry
   pub pages : List ℕ
@@ -34,22 +34,22 @@ pub data Call : Type 0 where
 pub record Reply : Type 0 where
   pub answer : Answer
   pub words : List ℕ
-  pub hand : Hand
+  pub lent : Lent
 
 -- the calls' own definitions; what a call does not name stays
-unfoldable pub reply : List ℕ → Hand → Call → Reply
-reply w m (append k x) = let o = insertRowPage w k x in record { answer = o .answer; words = o .words; hand = m }
-reply w m (lookup q) = record { answer = tryFindRow w q; words = w; hand = m }
-reply w m (prune s e ids) = let o = pruneCheckpointPrefix w s e ids in record { answer = o .answer; words = o .words; hand = m }
-reply w m (seekRow q) = record { answer = result []; words = w; hand = record { cursor = seek q; records = m .records; pages = m .pages } }
+unfoldable pub reply : List ℕ → Lent → Call → Reply
+reply w m (append k x) = let o = insertRowPage w k x in record { answer = o .answer; words = o .words; lent = m }
+reply w m (lookup q) = record { answer = tryFindRow w q; words = w; lent = m }
+reply w m (prune s e ids) = let o = pruneCheckpointPrefix w s e ids in record { answer = o .answer; words = o .words; lent = m }
+reply w m (seekRow q) = record { answer = result []; words = w; lent = record { cursor = seek q; records = m .records; pages = m .pages } }
 reply w m nextLeaf =
     let o = nextLeafOf w (m .cursor) (m .records) in
-    record { answer = o .answer; words = w; hand = record { cursor = o .cursor; records = o .list; pages = m .pages } }
+    record { answer = o .answer; words = w; lent = record { cursor = o .cursor; records = o .list; pages = m .pages } }
 reply w m (release v) =
     let o = destroy w v (m .pages) in
-    record { answer = o .answer; words = o .words; hand = record { cursor = m .cursor; records = m .records; pages = o .list } }
-reply w m releaseEmpty = let o = destroyEmpty w in record { answer = o .answer; words = o .words; hand = m }
-reply w m check = record { answer = fullCheck w; words = w; hand = m }
+    record { answer = o .answer; words = o .words; lent = record { cursor = m .cursor; records = m .records; pages = o .list } }
+reply w m releaseEmpty = let o = destroyEmpty w in record { answer = o .answer; words = o .words; lent = m }
+reply w m check = record { answer = fullCheck w; words = w; lent = m }
 
 -- what a store stands for
 pub data State : Type 0 where
@@ -61,19 +61,19 @@ ifDone (result v) a b = a
 ifDone (refused n d) a b = b
 
 -- after a call with this answer: an accepted cut takes away the ranges that were named
-unfoldable pub following : State → Call → Answer → State
-following closed c a = closed
-following (holding l) (append k x) a = holding (ifDone a (ledgerAppend l k x) l)
-following (holding l) (lookup q) a = holding l
-following (holding l) (prune s e ids) a = holding (ifDone a (record { start = e; ranges = drop (length ids) (l .ranges) }) l)
-following (holding l) (seekRow q) a = holding l
-following (holding l) nextLeaf a = holding l
-following (holding l) (release v) a = ifDone a closed (holding l)
-following (holding l) releaseEmpty a = ifDone a closed (holding l)
-following (holding l) check a = holding l
+unfoldable pub stateAfter : State → Call → Answer → State
+stateAfter closed c a = closed
+stateAfter (holding l) (append k x) a = holding (ifDone a (ledgerAppend l k x) l)
+stateAfter (holding l) (lookup q) a = holding l
+stateAfter (holding l) (prune s e ids) a = holding (ifDone a (record { start = e; ranges = drop (length ids) (l .ranges) }) l)
+stateAfter (holding l) (seekRow q) a = holding l
+stateAfter (holding l) nextLeaf a = holding l
+stateAfter (holding l) (release v) a = ifDone a closed (holding l)
+stateAfter (holding l) releaseEmpty a = ifDone a closed (holding l)
+stateAfter (holding l) check a = holding l
 
 abbrev pub History : Type 0
-History = List (Hand × Call)
+History = List (Lent × Call)
 
 -- where a history leads
 pub record Place : Type 0 where
@@ -82,4 +82,4 @@ pub record Place : Type 0 where
 
 unfoldable pub run : Place → History → Place
 run p [] = p
-run p ((m, c) ∷ cs) = let r = reply (p .words) m c in run (record { words = r .words; state = following (p .state) c (r .answer) }) cs
+run p ((m, c) ∷ cs) = let r = reply (p .words) m c in run (record { words = r .words; state = stateAfter (p .state) c (r .answer) }) cs
