@@ -55,8 +55,9 @@ pub data Walks (w : List ℕ) : RowPageIndexMemCursor → History → List (ℕ 
   over : (c : RowPageIndexMemCursor) (m : Lent) (cs : History) → m .cursor ≡ c → reply w m nextLeaf .answer ≡ result []
       → Walks w c ((m, nextLeaf) ∷ cs) [] 0
 
--- Release: 12 with the first row below pivot v, 13 where fewer than the ledger's pages fit --------------------------
+-- Release ----------------------------------------------------------------------------------------------------------
 
+-- "12, first such row"; "13, length wanted": pivot v, a tree of so many nodes, a lent list where so many page ids fit
 unfoldable pub firstBelow : ℕ → List (ℕ × ℕ) → Fault
 firstBelow v [] = clear
 firstBelow v (p ∷ ps) = pick (ltb (p .0) v) (at (p .0)) (firstBelow v ps)
