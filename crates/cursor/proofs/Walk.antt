@@ -39,14 +39,14 @@ unfolding joined
 joined-append [] ys = refl
 joined-append (x ∷ xs) ys = ap (λ (t : List (ℕ × ℕ)). x .pairs ++ t) (joined-append xs ys) ∙ sym (append-assoc (x .pairs) (joined xs) (joined ys))
 
-abbrev lowPage : Entry → ℕ × ℕ
+abbrev pub lowPage : Entry → ℕ × ℕ
 lowPage e = (e .low, e .page)
 
 map-append : (a b : List Entry) → map lowPage (a ++ b) ≡ map lowPage a ++ map lowPage b
 map-append [] b = refl
 map-append (e ∷ a) b = ap (λ (t : List (ℕ × ℕ)). lowPage e ∷ t) (map-append a b)
 
-leaf-joined : (ps : List (ℕ × ℕ)) (b : Limit) → map lowPage (overPairs (entries 0) ps b) ≡ ps
+pub leaf-joined : (ps : List (ℕ × ℕ)) (b : Limit) → map lowPage (overPairs (entries 0) ps b) ≡ ps
 unfolding overPairs entries
 leaf-joined [] b = refl
 leaf-joined (p ∷ ps) b = ap (λ (t : List (ℕ × ℕ)). p ∷ t) (leaf-joined ps b)
@@ -65,7 +65,7 @@ unfolding entries leaves joined last
 tree-joined zero t r b = leaf-joined (t .pairs) (Below (t .end)) ∙ sym (append-nil (t .pairs))
 tree-joined (suc h) t r b = over-joined (entries (suc h)) (leaves h) (tree-joined h) (t .pairs) b
 
-from-walk : (s : ℕ) (gs : List Range) → map lowPage (entriesFrom s gs) ≡ walkFrom s gs
+pub from-walk : (s : ℕ) (gs : List Range) → map lowPage (entriesFrom s gs) ≡ walkFrom s gs
 unfolding entriesFrom walkFrom
 from-walk s [] = refl
 from-walk s (g ∷ gs) = ap (λ (t : List (ℕ × ℕ)). (s, g .page) ∷ t) (from-walk (g .end) gs)
@@ -95,7 +95,7 @@ module _ (C : ℕ) (w : List ℕ) (n : ℕ) where
   pairs-of i zero = refl
   pairs-of i (suc k) = ap (λ (t : List (ℕ × ℕ)). (row C w n i, child C w n i) ∷ t) (pairs-of (i + 1) k)
 
-  read : (k : ℕ) (l : List PageEntry) → k ≤ length l → firstPairs k (fill l 0 (records C w n 0 k)) ≡ pairsFrom C w (λ (x : ℕ). x) n 0 k
+  pub read : (k : ℕ) (l : List PageEntry) → k ≤ length l → firstPairs k (fill l 0 (records C w n 0 k)) ≡ pairsFrom C w (λ (x : ℕ). x) n 0 k
   read k l h =
       let e = length-records C w n 0 k in
       ap (map pairOf) (subst (λ (x : ℕ). take x (fill l 0 (records C w n 0 k)) ≡ records C w n 0 k) e (take-filled l (records C w n 0 k) (omega (arith, e)))) ∙ pairs-of 0 k
@@ -274,10 +274,10 @@ pub walk-never : (w : List ℕ) (l : Ledger) → Holds w l → (c : RowPageIndex
     → (ys : List ℕ) × (nextLeafOf w c list .answer ≡ result ys)
 walk-never w l H c list room = never-refused w (H .formed) c list room
 
-none-some : {s e k : ℕ} → result [] ≡ result (s ∷ e ∷ k ∷ []) → ⊥
+pub none-some : {s e k : ℕ} → result [] ≡ result (s ∷ e ∷ k ∷ []) → ⊥
 none-some {s} {e} {k} p = let z : [] ≡ s ∷ e ∷ k ∷ [] = cc in absurd (omega (arith, ap length z))
 
-third : {s e k s₂ e₂ k₂ : ℕ} → result (s ∷ e ∷ k ∷ []) ≡ result (s₂ ∷ e₂ ∷ k₂ ∷ []) → k ≡ k₂
+pub third : {s e k s₂ e₂ k₂ : ℕ} → result (s ∷ e ∷ k ∷ []) ≡ result (s₂ ∷ e₂ ∷ k₂ ∷ []) → k ≡ k₂
 third e = cc
 
 -- a walk is one: the steps decide the records and how many leaves there are

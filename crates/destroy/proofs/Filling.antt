@@ -22,22 +22,22 @@ unfolding fill
 fill-length l a [] = refl
 fill-length l a (x ∷ xs) = fill-length (set l a x) (a + 1) xs ∙ length-set l a x
 
-set-at : (a : List ℕ) (y : ℕ) (l : List ℕ) (x : ℕ) → set (a ++ (y ∷ l)) (length a) x ≡ (a ++ (x ∷ [])) ++ l
+set-at : {A : Type 0} (a : List A) (y : A) (l : List A) (x : A) → set (a ++ (y ∷ l)) (length a) x ≡ (a ++ (x ∷ [])) ++ l
 set-at [] y l x = refl
-set-at (b ∷ a) y l x = ap (λ (m : List ℕ). b ∷ m) (set-at a y l x)
+set-at (b ∷ a) y l x = ap (λ m. b ∷ m) (set-at a y l x)
 
-fill-after : (a l xs : List ℕ) → length xs ≤ length l → fill (a ++ l) (length a) xs ≡ a ++ (xs ++ drop (length xs) l)
+fill-after : {A : Type 0} (a l xs : List A) → length xs ≤ length l → fill (a ++ l) (length a) xs ≡ a ++ (xs ++ drop (length xs) l)
 unfolding fill
 fill-after a l [] h = refl
 fill-after a [] (x ∷ xs) h = absurd (omega arith)
 fill-after a (y ∷ l) (x ∷ xs) h =
-    ap (λ (m : List ℕ). fill m (length a + 1) xs) (set-at a y l x)
+    ap (λ m. fill m (length a + 1) xs) (set-at a y l x)
     ∙ ap (λ (k : ℕ). fill ((a ++ (x ∷ [])) ++ l) k xs) (sym (length-append a (x ∷ [])))
     ∙ fill-after (a ++ (x ∷ [])) l xs (omega arith)
     ∙ append-assoc a (x ∷ []) (xs ++ drop (length xs) l)
 
--- the list afterwards: the numbers, and what stood behind them
-pub fill-is : (l xs : List ℕ) → length xs ≤ length l → fill l 0 xs ≡ xs ++ drop (length xs) l
+-- the list afterwards: what went into it, and what stood behind
+pub fill-is : {A : Type 0} (l xs : List A) → length xs ≤ length l → fill l 0 xs ≡ xs ++ drop (length xs) l
 fill-is l xs h = fill-after [] l xs h
 
 -- The page ids of one node --------------------------------------------------------------------------------

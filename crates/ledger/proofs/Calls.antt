@@ -27,7 +27,7 @@ use Rattle.ledger.specs.Sizes.{treeHeight, treeNodes, neededNodes}
 use Rattle.ledger.specs.Laws.{InsertLaw, levelsGone, CutLaw, PruneLaw}
 
 -- entries end where the ledger does
-ends : (s : ℕ) (gs : List Range) → entriesEnd s (entriesFrom s gs) ≡ endFrom s gs
+pub ends : (s : ℕ) (gs : List Range) → entriesEnd s (entriesFrom s gs) ≡ endFrom s gs
 unfolding entriesEnd entriesFrom endFrom
 ends s [] = refl
 ends s (g ∷ gs) = ends (g .end) gs

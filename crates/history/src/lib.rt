@@ -1,0 +1,1 @@
+// What any history of calls answers and leaves. Theorems only.
