@@ -17,6 +17,7 @@ mod rattle {
         fn bench_find(words: *const u64, len: usize, row: u64) -> u64;
         fn bench_check(words: *const u64, len: usize) -> u64;
         fn bench_next(words: *const u64, len: usize, row: u64, list: *mut u64, list_len: usize) -> u64;
+        fn bench_prune(words: *mut u64, len: usize, start: u64, end: u64, ids: *const u64, ids_len: usize) -> u64;
         fn bench_destroy(words: *mut u64, len: usize, pages: *mut u64, pages_len: usize) -> u64;
     }
 
@@ -38,6 +39,10 @@ mod rattle {
 
     pub fn next(w: &[u64], row: u64, list: &mut [u64]) -> u64 {
         unsafe { bench_next(w.as_ptr(), w.len(), row, list.as_mut_ptr(), list.len()) }
+    }
+
+    pub fn prune(w: &mut [u64], start: u64, end: u64, ids: &[u64]) -> u64 {
+        unsafe { bench_prune(w.as_mut_ptr(), w.len(), start, end, ids.as_ptr(), ids.len()) }
     }
 
     pub fn destroy(w: &mut [u64], pages: &mut [u64]) -> u64 {
@@ -70,13 +75,14 @@ fn main() {
         2 => 65_535,
         _ => 2 * n / c + 64,
     };
-    let mut best = [f64::MAX; 10];
+    let mut best = [f64::MAX; 12];
     let mut keep = |i: usize, t: Instant, ops: u64| best[i] = best[i].min(t.elapsed().as_nanos() as f64 / ops as f64);
     let mut words = vec![0u64; (8 + nodes * (4 + 2 * c)) as usize];
     let mut held = 0;
     let mut list = vec![0u64; 2 * c as usize];
     let mut pages = vec![0u64; n as usize];
     let mut others = vec![0u64; n as usize];
+    let ids: Vec<u64> = (1..=n).collect();
     for _ in 0..rounds {
         assert_eq!(rattle::create(&mut words, c, nodes), nodes);
         let t = Instant::now();
@@ -122,6 +128,14 @@ fn main() {
         assert_eq!(row, 10 * n);
         let mut copy = words.clone();
         let t = Instant::now();
+        assert_eq!(rattle::prune(black_box(&mut copy), 0, 10 * n, &ids), held - 1);
+        keep(10, t, n);
+        copy.copy_from_slice(&words);
+        let t = Instant::now();
+        black_box(rattle::prune(black_box(&mut copy), 0, 10 * (n / 2), &ids[..n as usize / 2]));
+        keep(11, t, n / 2);
+        copy.copy_from_slice(&words);
+        let t = Instant::now();
         assert_eq!(plain::destroy::<false>(black_box(&mut copy), &mut others), held);
         keep(6, t, held);
         copy.copy_from_slice(&words);
@@ -144,4 +158,6 @@ fn main() {
     println!("release {:.1}", best[7]);
     println!("four_check {:.1}", best[8]);
     println!("four_release {:.1}", best[9]);
+    println!("prune {:.1}", best[10]);
+    println!("prune_half {:.1}", best[11]);
 }

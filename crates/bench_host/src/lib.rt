@@ -11,6 +11,7 @@ use model::answer::Created;
 use model::answer::Destroyed;
 use model::answer::Inserted;
 use model::answer::NextLeaf;
+use model::answer::Pruned;
 use model::answer::RowLocation;
 use model::cursor::RowPageIndexMemCursor;
 use model::id::NodeNo;
@@ -149,5 +150,14 @@ pub extern "C" fn bench_destroy(words: &mut [u64], pages: &mut [u64]) -> u64 {
     match destroy::destroy(words, RowID(0), pages) {
         Destroyed::Refused(_) => REFUSED,
         Destroyed::Done { nodes, pages: _ } => nodes,
+    }
+}
+
+// A prune: the nodes freed.
+#[no_mangle]
+pub extern "C" fn bench_prune(words: &mut [u64], start: u64, end: u64, ids: &[u64]) -> u64 {
+    match prune::prune_checkpoint_prefix(words, RowID(start), RowID(end), ids) {
+        Pruned::Refused(_) => REFUSED,
+        Pruned::Done(p) => p.reclaimed_nodes,
     }
 }
