@@ -66,9 +66,12 @@ pub fn check_open(h: StoreHeader, s: &[u64]) -> Checked
     requires { ⌜ opened (now s) ≡ Open h ⌝ }
     ensures { λ r. ⌜ checkedAnswer r ≡ fullCheck (now (s .entry)) ⌝ }
 {
-    match survey::survey_tree(h.layout, s, false, h.root) {
+    let surveys = survey::survey_both(h.layout, s, h.root);
+    let nodes = surveys.nodes;
+    let ends = surveys.ends;
+    match nodes {
         Survey::Unsound(n) => Checked::Refused(Refusal::Unsound(n)),
-        Survey::Counted(counts) => match survey::survey_tree(h.layout, s, true, h.root) {
+        Survey::Counted(counts) => match ends {
             Survey::Unsound(n) => Checked::Refused(Refusal::Unsound(n)),
             Survey::Counted(_) => check_chain(h, s, counts),
         },

@@ -1,3 +1,4 @@
 pub mod Going
 pub mod FromRoot
+pub mod WithEnds
 pub mod Exact
