@@ -14,6 +14,7 @@ ghost use Rattle.walk.specs.Left.{Valid, rest};
 ghost use Rattle.walk.specs.Turn.{outOf};
 ghost use Rattle.survey.specs.Tally.{counted, more, noCounts, tally};
 ghost use Rattle.survey.specs.Ends.{wrongEnd, withEnds};
+ghost use Rattle.survey.specs.Limits.{bounded, limit, rowOf};
 use model::id::NodeNo;
 use model::id::RowID;
 use model::path::Path;
@@ -118,6 +119,34 @@ pub fn both(nodes: Survey, wrong: WrongEnd) -> Surveys
     }
 }
 
+// What is next, kept as a flag and a row: an enum stored and loaded in a loop is slow, its unused bytes are copied too.
+pub fn limit(bounded: bool, row: u64) -> Limit
+    ensures { λ r. ⌜ r ≡ limit bounded row ⌝ }
+{
+    if bounded {
+        return Limit::Below(RowID(row));
+    }
+    Limit::Open
+}
+
+pub fn is_bounded(next: Limit) -> bool
+    ensures { λ r. ⌜ r ≡ bounded next ⌝ }
+{
+    match next {
+        Limit::Open => false,
+        Limit::Below(_) => true,
+    }
+}
+
+pub fn row_of(next: Limit) -> u64
+    ensures { λ r. ⌜ r ≡ rowOf next ⌝ }
+{
+    match next {
+        Limit::Open => 0,
+        Limit::Below(row) => row.0,
+    }
+}
+
 // What is left below a node that was entered, with the counts and the first wrong end so far. The path is stored to in
 // place: a copy of it for each node would cost more than the node's test.
 pub fn survey_below(
@@ -141,7 +170,8 @@ pub fn survey_below(
         }; 32],
         depth: 1,
     };
-    let mut nexts = [Limit::Open; 32];
+    let mut bounded = [false; 32];
+    let mut rows = [0; 32];
     let mut firsts = [first; 32];
     let mut counts = start;
     let mut wrong = seen;
@@ -159,7 +189,7 @@ pub fn survey_below(
             if out <= index {
                 return both(Survey::Unsound(node), wrong);
             }
-            let next = nexts[at];
+            let next = limit(bounded[at], rows[at]);
             match turn::enter(l, s, false, node, index, next) {
                 Entered::Bad(n) => {
                     return both(Survey::Unsound(n), wrong);
@@ -173,7 +203,8 @@ pub fn survey_below(
                         node: child,
                         index: 0,
                     };
-                    nexts[depth] = beyond;
+                    bounded[depth] = is_bounded(beyond);
+                    rows[depth] = row_of(beyond);
                     firsts[depth] = inner;
                     path.depth = depth + 1;
                     counts = count_node(l, s, child, counts);
