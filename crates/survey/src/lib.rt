@@ -42,12 +42,6 @@ pub enum Survey {
     Counted(Counts),
 }
 
-// The first branch seen whose end is wrong.
-pub enum WrongEnd {
-    None,
-    At(NodeNo),
-}
-
 // The reading without ends and the one with ends, made in one walk.
 pub struct Surveys {
     pub nodes: Survey,
@@ -87,11 +81,11 @@ pub fn count_node(l: Layout, s: &[u64], n: NodeNo, k: Counts) -> Counts
     }
 }
 
-// The first wrong end, once sound node n was looked at.
-pub fn look_at_end(l: Layout, s: &[u64], n: NodeNo, next: Limit, wrong: WrongEnd) -> WrongEnd
+// The first branch whose end is wrong, once sound node n was looked at. Number P stands for none.
+pub fn look_at_end(l: Layout, s: &[u64], n: NodeNo, next: Limit, wrong: NodeNo) -> NodeNo
     requires { ⌜ Fits l (now s) ⌝ }
     requires { ⌜ n .0 < l .pool ⌝ }
-    ensures { λ r. ⌜ r ≡ wrongEnd (l .capacity) (now (s .entry)) (n .0) (limitOf next) wrong ⌝ }
+    ensures { λ r. ⌜ r .0 ≡ wrongEnd (l .capacity) (l .pool) (now (s .entry)) (n .0) (limitOf next) (wrong .0) ⌝ }
 {
     let height = l.part(s, n, 0);
     let end = l.part(s, n, 3);
@@ -99,24 +93,24 @@ pub fn look_at_end(l: Layout, s: &[u64], n: NodeNo, next: Limit, wrong: WrongEnd
     if fits {
         return wrong;
     }
-    match wrong {
-        WrongEnd::None => WrongEnd::At(n),
-        WrongEnd::At(_) => wrong,
+    if wrong.0 < l.pool {
+        return wrong;
     }
+    n
 }
 
 // Both readings, by the one without ends and the first wrong end before its last node.
-pub fn both(nodes: Survey, wrong: WrongEnd) -> Surveys
+pub fn both(l: Layout, nodes: Survey, wrong: NodeNo) -> Surveys
     ensures nodes { λ r. ⌜ r .nodes ≡ nodes ⌝ }
-    ensures ends { λ r. ⌜ r .ends ≡ withEnds wrong nodes ⌝ }
+    ensures ends { λ r. ⌜ r .ends ≡ withEnds (l .pool) (wrong .0) nodes ⌝ }
 {
-    match wrong {
-        WrongEnd::None => Surveys { nodes, ends: nodes },
-        WrongEnd::At(n) => Surveys {
+    if wrong.0 < l.pool {
+        return Surveys {
             nodes,
-            ends: Survey::Unsound(n),
-        },
+            ends: Survey::Unsound(wrong),
+        };
     }
+    Surveys { nodes, ends: nodes }
 }
 
 // What is next, kept as a flag and a row: an enum stored and loaded in a loop is slow, its unused bytes are copied too.
@@ -155,13 +149,13 @@ pub fn survey_below(
     root: NodeNo,
     first: u64,
     start: Counts,
-    seen: WrongEnd,
+    seen: NodeNo,
 ) -> Surveys
     requires { ⌜ Fits l (now s) ⌝ }
     requires { ⌜ Valid (l .capacity) (l .pool) (now s) (height (l .capacity) (now s) (root .0)) (entered (root .0) ∷ []) ⌝ }
     requires { ⌜ first ≡ outOf (l .capacity) (l .pool) (now s) (height (l .capacity) (now s) (root .0)) (root .0) ⌝ }
     ensures nodes { λ r. ⌜ r .nodes ≡ tally (l .capacity) (now (s .entry)) (rest false (l .capacity) (l .pool) (now (s .entry)) (height (l .capacity) (now (s .entry)) (root .0)) (entered (root .0) ∷ [])) start ⌝ }
-    ensures ends { λ r. ⌜ r .ends ≡ withEnds seen (tally (l .capacity) (now (s .entry)) (rest true (l .capacity) (l .pool) (now (s .entry)) (height (l .capacity) (now (s .entry)) (root .0)) (entered (root .0) ∷ [])) start) ⌝ }
+    ensures ends { λ r. ⌜ r .ends ≡ withEnds (l .pool) (seen .0) (tally (l .capacity) (now (s .entry)) (rest true (l .capacity) (l .pool) (now (s .entry)) (height (l .capacity) (now (s .entry)) (root .0)) (entered (root .0) ∷ [])) start) ⌝ }
 {
     let mut path = Path {
         positions: [Position {
@@ -187,12 +181,12 @@ pub fn survey_below(
         } else {
             let out = firsts[at];
             if out <= index {
-                return both(Survey::Unsound(node), wrong);
+                return both(l, Survey::Unsound(node), wrong);
             }
             let next = limit(bounded[at], rows[at]);
             match turn::enter(l, s, false, node, index, next) {
                 Entered::Bad(n) => {
-                    return both(Survey::Unsound(n), wrong);
+                    return both(l, Survey::Unsound(n), wrong);
                 }
                 Entered::Child(child, beyond, inner) => {
                     path.positions[at] = Position {
@@ -213,7 +207,7 @@ pub fn survey_below(
             }
         }
     }
-    both(Survey::Counted(counts), wrong)
+    both(l, Survey::Counted(counts), wrong)
 }
 
 // Both readings of the whole tree from the root of an open store.
@@ -223,27 +217,26 @@ pub fn survey_both(l: Layout, s: &[u64], root: NodeNo) -> Surveys
     ensures nodes { λ r. ⌜ r .nodes ≡ tally (l .capacity) (now (s .entry)) (rootVisits false (l .capacity) (l .pool) (now (s .entry)) (root .0)) noCounts ⌝ }
     ensures ends { λ r. ⌜ r .ends ≡ tally (l .capacity) (now (s .entry)) (rootVisits true (l .capacity) (l .pool) (now (s .entry)) (root .0)) noCounts ⌝ }
 {
-    let none = Counts {
+    let none = NodeNo(l.pool);
+    let zero = Counts {
         nodes: 0,
         leaves: 0,
         entries: 0,
     };
     let empty = test::is_empty_root(l, s, root);
     if empty {
-        return both(
-            Survey::Counted(count_node(l, s, root, none)),
-            WrongEnd::None,
-        );
+        let counts = count_node(l, s, root, zero);
+        return both(l, Survey::Counted(counts), none);
     }
     let h = l.header(s, root);
     if !h.is_in_height() {
-        return both(Survey::Unsound(root), WrongEnd::None);
+        return both(l, Survey::Unsound(root), none);
     }
     match turn::pass(l, s, false, root, h.height, h.start_row_id, Limit::Open) {
-        NodeTest::Unsound => both(Survey::Unsound(root), WrongEnd::None),
+        NodeTest::Unsound => both(l, Survey::Unsound(root), none),
         NodeTest::Sound(first) => {
-            let counts = count_node(l, s, root, none);
-            let wrong = look_at_end(l, s, root, Limit::Open, WrongEnd::None);
+            let counts = count_node(l, s, root, zero);
+            let wrong = look_at_end(l, s, root, Limit::Open, none);
             survey_below(l, s, root, first, counts, wrong)
         }
     }

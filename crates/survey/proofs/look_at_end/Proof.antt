@@ -1,11 +1,10 @@
 use borrow.Author.Needs.{needs}
 use mathlib.Core.Bool.{true, false}
-use mathlib.Core.Path.{_≡_, sym, ap, _∙_}
-use borrow.Author.Tests.{not-true}
+use mathlib.Core.Path.{_≡_, sym, _∙_}
 use Rattle.model.specs.Words.{part, height, end}
 use Rattle.model.specs.Reading.{endFits}
 use Rattle.node.specs.Test.{limitOf}
-use Rattle.survey.proofs.WithEnds.{end-right, end-wrong, end-later}
+use Rattle.survey.proofs.WithEnds.{end-right, end-later, end-wrong}
 use Rattle.survey.proofs.look_at_end.Statement.{statement}
 use Rattle.survey.proofs.look_at_end.Tie as tie
 
@@ -22,32 +21,21 @@ returns : tie.Need-returns
 returns c =
     let a = c .before .before .before .before .before .args in
     let e : endFits (height (a .l .capacity) (a .s .now) (a .n .0)) (limitOf (a .next)) (end (a .l .capacity) (a .s .now) (a .n .0)) ≡ true = rw (c .before .before .before .part .ensures, c .before .before .part2 .ensures) at (sym (c .before .end-fits .ensures) ∙ c .if1 .taken) in
-    sym (end-right (a .l .capacity) (a .s .now) (a .n .0) (limitOf (a .next)) (a .wrong) e)
-
-enum-told : tie.Need-enum-told
-enum-told c = search needs
-
-enum-told-2 : tie.Need-enum-told-2
-enum-told-2 c = search needs
+    sym (end-right (a .l .capacity) (a .l .pool) (a .s .now) (a .n .0) (limitOf (a .next)) (a .wrong .0) e)
 
 returns-2 : tie.Need-returns-2
 returns-2 c =
-    let a = c .before .before .before .before .before .before .before .args in
-    let e : endFits (height (a .l .capacity) (a .s .now) (a .n .0)) (limitOf (a .next)) (end (a .l .capacity) (a .s .now) (a .n .0)) ≡ false = rw (c .before .before .before .before .before .part .ensures, c .before .before .before .before .part2 .ensures) at (sym (c .before .before .before .end-fits .ensures) ∙ c .before .before .if1 .left) in
-    sym (end-wrong (a .l .capacity) (a .s .now) (a .n .0) (limitOf (a .next)) (a .wrong) (c .enum-told .given .1) e)
+    let a = c .before .before .before .before .before .before .before .before .args in
+    let e : endFits (height (a .l .capacity) (a .s .now) (a .n .0)) (limitOf (a .next)) (end (a .l .capacity) (a .s .now) (a .n .0)) ≡ false = rw (c .before .before .before .before .before .before .part .ensures, c .before .before .before .before .before .part2 .ensures) at (sym (c .before .before .before .before .end-fits .ensures) ∙ c .before .before .before .if1 .left) in
+    sym (end-later (a .l .capacity) (a .l .pool) (a .s .now) (a .n .0) (limitOf (a .next)) (a .wrong .0) e (c .if2 .taken))
 
 returns-3 : tie.Need-returns-3
-returns-3 c = let a = c .before .before .before .before .before .before .before .args in sym (end-later (a .l .capacity) (a .s .now) (a .n .0) (limitOf (a .next)) (a .wrong) _ (c .enum-told2 .given .1))
+returns-3 c =
+    let a = c .before .before .before .before .before .before .before .before .args in
+    let e : endFits (height (a .l .capacity) (a .s .now) (a .n .0)) (limitOf (a .next)) (end (a .l .capacity) (a .s .now) (a .n .0)) ≡ false = rw (c .before .before .before .before .before .before .part .ensures, c .before .before .before .before .before .part2 .ensures) at (sym (c .before .before .before .before .end-fits .ensures) ∙ c .before .before .before .if1 .left) in
+    sym (end-wrong (a .l .capacity) (a .l .pool) (a .s .now) (a .n .0) (limitOf (a .next)) (a .wrong .0) e (c .if2 .left))
 
 pub look-at-end-spec : {M : Type 1} → statement M
 look-at-end-spec =
     tie.close
-    (tie.spec
-    part-requires
-    part-requires-2
-    end-fits-requires
-    returns
-    enum-told
-    enum-told-2
-    returns-2
-    returns-3)
+    (tie.spec part-requires part-requires-2 end-fits-requires returns returns-2 returns-3)

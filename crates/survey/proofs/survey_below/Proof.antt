@@ -26,7 +26,7 @@ use Rattle.survey.proofs.survey_below.Tie as tie
 
 abbrev Inv-loop : tie.InvT-loop
 Inv-loop l s first path₀ bounded₀ rows₀ firsts₀ counts₀ wrong₀ path bounded rows firsts counts wrong =
-    Both (l .capacity) (l .pool) s (tally (l .capacity) s (left false (l .capacity) (l .pool) s path₀) counts₀) (withEnds wrong₀ (tally (l .capacity) s (left true (l .capacity) (l .pool) s path₀) counts₀)) path (limits bounded rows) firsts counts wrong
+    Both (l .capacity) (l .pool) s (tally (l .capacity) s (left false (l .capacity) (l .pool) s path₀) counts₀) (withEnds (l .pool) (wrong₀ .0) (tally (l .capacity) s (left true (l .capacity) (l .pool) s path₀) counts₀)) path (limits bounded rows) firsts counts (wrong .0)
 
 abbrev μ-loop : tie.MeasureT-loop
 μ-loop l s first path₀ bounded₀ rows₀ firsts₀ counts₀ wrong₀ path bounded rows firsts counts wrong = length (left false (l .capacity) (l .pool) s path)
@@ -73,7 +73,7 @@ loop-again c =
     let x = c .before .before .before .before .before .loop in
     let z = c .before .before .before .before .loop-test .taken in
     let has : hasChild (a .l .capacity) (a .s .now) (lastOf (x .path) .node .0) (lastOf (x .path) .index) ≡ false = sym (c .before .has-child .ensures) ∙ not-true _ (c .if1 .taken) in
-    both-out (a .l .capacity) (a .l .pool) (a .s .now) _ _ (x .path) (limits (x .bounded) (x .rows)) (x .firsts) (x .counts) (x .wrong) (x .inv) z has
+    both-out (a .l .capacity) (a .l .pool) (a .s .now) _ _ (x .path) (limits (x .bounded) (x .rows)) (x .firsts) (x .counts) (x .wrong .0) (x .inv) z has
 
 mul-out : tie.Need-mul-out Inv-loop μ-loop
 mul-out c =
@@ -98,8 +98,8 @@ returns c =
     let x = c .before .before .before .before .before .before .before .loop in
     let z = c .before .before .before .before .before .before .loop-test .taken in
     let has : hasChild (a .l .capacity) (a .s .now) (lastOf (x .path) .node .0) (lastOf (x .path) .index) ≡ true = sym (c .before .before .before .has-child .ensures) ∙ not-false _ (c .before .before .if1 .left) in
-    let q = both-far (a .l .capacity) (a .l .pool) (a .s .now) _ _ (x .path) (limits (x .bounded) (x .rows)) (x .firsts) (x .counts) (x .wrong) (x .inv) z has (c .before .if2 .taken) in
-    (c .both .ensures .0 ∙ q .0 ∙ ap (λ (vs : List Visit). tally (a .l .capacity) (a .s .now) vs (a .start)) (rooted-left false (a .l .capacity) (a .l .pool) (a .s .now) (a .root .0) (c .before .before .before .before .before .before .before .before .before .pre .1 .0)), c .both .ensures .1 ∙ q .1 ∙ ap (λ (vs : List Visit). withEnds (a .seen) (tally (a .l .capacity) (a .s .now) vs (a .start))) (rooted-left true (a .l .capacity) (a .l .pool) (a .s .now) (a .root .0) (c .before .before .before .before .before .before .before .before .before .pre .1 .0)))
+    let q = both-far (a .l .capacity) (a .l .pool) (a .s .now) _ _ (x .path) (limits (x .bounded) (x .rows)) (x .firsts) (x .counts) (x .wrong .0) (x .inv) z has (c .before .if2 .taken) in
+    (c .both .ensures .0 ∙ q .0 ∙ ap (λ (vs : List Visit). tally (a .l .capacity) (a .s .now) vs (a .start)) (rooted-left false (a .l .capacity) (a .l .pool) (a .s .now) (a .root .0) (c .before .before .before .before .before .before .before .before .before .pre .1 .0)), c .both .ensures .1 ∙ q .1 ∙ ap (λ (vs : List Visit). withEnds (a .l .pool) (a .seen .0) (tally (a .l .capacity) (a .s .now) vs (a .start))) (rooted-left true (a .l .capacity) (a .l .pool) (a .s .now) (a .root .0) (c .before .before .before .before .before .before .before .before .before .pre .1 .0)))
 
 array-read-limit : tie.Need-array-read-limit Inv-loop μ-loop
 array-read-limit c =
@@ -149,8 +149,8 @@ returns-2 c =
     let has : hasChild (a .l .capacity) (a .s .now) (lastOf (x .path) .node .0) (lastOf (x .path) .index) ≡ true = sym (c .before .before .before .before .before .before .before .before .has-child .ensures) ∙ not-false _ (c .before .before .before .before .before .before .before .if1 .left) in
     let at = ap (entering false (a .l .capacity) (a .l .pool) (a .s .now) (lastOf (x .path) .node .0) (lastOf (x .path) .index)) (next-at (a .l .capacity) (a .l .pool) (a .s .now) false _ (x .path) (x .bounded) (x .rows) (x .firsts) (x .counts) (x .inv .nodes) z _ (c .before .before .before .before .before .limit .ensures)) in
     let bd = barred false (a .l .capacity) (a .l .pool) (a .s .now) (lastOf (x .path) .node .0) (lastOf (x .path) .index) _ _ (sym (ap enteredOf (c .before .before .n .given .1)) ∙ c .before .before .before .before .enter .ensures ∙ at) in
-    let q = both-bad (a .l .capacity) (a .l .pool) (a .s .now) _ _ (x .path) (limits (x .bounded) (x .rows)) (x .firsts) (x .counts) (x .wrong) (x .inv) z has (c .before .before .before .before .before .before .if2 .left) _ bd in
-    (c .both2 .ensures .0 ∙ q .0 ∙ ap (λ (vs : List Visit). tally (a .l .capacity) (a .s .now) vs (a .start)) (rooted-left false (a .l .capacity) (a .l .pool) (a .s .now) (a .root .0) (c .before .before .before .before .before .before .before .before .before .before .before .before .before .before .pre .1 .0)), c .both2 .ensures .1 ∙ q .1 ∙ ap (λ (vs : List Visit). withEnds (a .seen) (tally (a .l .capacity) (a .s .now) vs (a .start))) (rooted-left true (a .l .capacity) (a .l .pool) (a .s .now) (a .root .0) (c .before .before .before .before .before .before .before .before .before .before .before .before .before .before .pre .1 .0)))
+    let q = both-bad (a .l .capacity) (a .l .pool) (a .s .now) _ _ (x .path) (limits (x .bounded) (x .rows)) (x .firsts) (x .counts) (x .wrong .0) (x .inv) z has (c .before .before .before .before .before .before .if2 .left) _ bd in
+    (c .both2 .ensures .0 ∙ q .0 ∙ ap (λ (vs : List Visit). tally (a .l .capacity) (a .s .now) vs (a .start)) (rooted-left false (a .l .capacity) (a .l .pool) (a .s .now) (a .root .0) (c .before .before .before .before .before .before .before .before .before .before .before .before .before .before .pre .1 .0)), c .both2 .ensures .1 ∙ q .1 ∙ ap (λ (vs : List Visit). withEnds (a .l .pool) (a .seen .0) (tally (a .l .capacity) (a .s .now) vs (a .start))) (rooted-left true (a .l .capacity) (a .l .pool) (a .s .now) (a .root .0) (c .before .before .before .before .before .before .before .before .before .before .before .before .before .before .pre .1 .0)))
 
 enum-known-child : tie.Need-enum-known-child Inv-loop μ-loop
 enum-known-child c = search needs
@@ -288,7 +288,7 @@ loop-again-2 c =
     let at = ap (entering false (a .l .capacity) (a .l .pool) (a .s .now) (lastOf (x .path) .node .0) (lastOf (x .path) .index)) (next-at (a .l .capacity) (a .l .pool) (a .s .now) false _ (x .path) (x .bounded) (x .rows) (x .firsts) (x .counts) (x .inv .nodes) z _ (c .before .before .before .before .before .before .before .before .limit .ensures)) in
     let wt = went false (a .l .capacity) (a .l .pool) (a .s .now) (lastOf (x .path) .node .0) (lastOf (x .path) .index) _ _ _ _ (sym (ap enteredOf (c .before .before .before .before .before .child .given .1)) ∙ c .before .before .before .before .before .before .before .enter .ensures ∙ at) in
     rw (c .look-at-end .ensures, c .before .count-node .ensures, c .before .before .row-of .ensures, c .before .before .before .is-bounded .ensures, set-limits (x .bounded) (x .rows) (x .path .depth) (c .before .before .before .before .before .child .given .0 .1 .0))
-    (both-in (a .l .capacity) (a .l .pool) (a .s .now) _ _ (x .path) (limits (x .bounded) (x .rows)) (x .firsts) (x .counts) (x .wrong) (x .inv) z has (c .before .before .before .before .before .before .before .before .before .if2 .left) _ (c .before .before .before .before .before .child .given .0 .1 .0) _ wt)
+    (both-in (a .l .capacity) (a .l .pool) (a .s .now) _ _ (x .path) (limits (x .bounded) (x .rows)) (x .firsts) (x .counts) (x .wrong .0) (x .inv) z has (c .before .before .before .before .before .before .before .before .before .if2 .left) _ (c .before .before .before .before .before .child .given .0 .1 .0) _ wt)
 
 both-requires-3 : tie.Need-both-requires-3 Inv-loop μ-loop
 both-requires-3 c κs = search needs
@@ -298,8 +298,8 @@ returns-3 c =
     let a = c .before .before .before .before .args in
     let x = c .before .before .loop in
     let z = c .before .loop-test .left in
-    let q = both-done (a .l .capacity) (a .l .pool) (a .s .now) _ _ (x .path) (limits (x .bounded) (x .rows)) (x .firsts) (x .counts) (x .wrong) (x .inv) z in
-    (c .both3 .ensures .0 ∙ q .0 ∙ ap (λ (vs : List Visit). tally (a .l .capacity) (a .s .now) vs (a .start)) (rooted-left false (a .l .capacity) (a .l .pool) (a .s .now) (a .root .0) (c .before .before .before .before .pre .1 .0)), c .both3 .ensures .1 ∙ q .1 ∙ ap (λ (vs : List Visit). withEnds (a .seen) (tally (a .l .capacity) (a .s .now) vs (a .start))) (rooted-left true (a .l .capacity) (a .l .pool) (a .s .now) (a .root .0) (c .before .before .before .before .pre .1 .0)))
+    let q = both-done (a .l .capacity) (a .l .pool) (a .s .now) _ _ (x .path) (limits (x .bounded) (x .rows)) (x .firsts) (x .counts) (x .wrong .0) (x .inv) z in
+    (c .both3 .ensures .0 ∙ q .0 ∙ ap (λ (vs : List Visit). tally (a .l .capacity) (a .s .now) vs (a .start)) (rooted-left false (a .l .capacity) (a .l .pool) (a .s .now) (a .root .0) (c .before .before .before .before .pre .1 .0)), c .both3 .ensures .1 ∙ q .1 ∙ ap (λ (vs : List Visit). withEnds (a .l .pool) (a .seen .0) (tally (a .l .capacity) (a .s .now) vs (a .start))) (rooted-left true (a .l .capacity) (a .l .pool) (a .s .now) (a .root .0) (c .before .before .before .before .pre .1 .0)))
 
 pub survey-below-spec : {M : Type 1} → statement M
 survey-below-spec =

@@ -13,10 +13,9 @@ use Rattle.walk.specs.Turn.{passTest}
 use Rattle.walk.proofs.Tests.{pass-sound, pass-unsound}
 use Rattle.walk.proofs.Rest.{passes-fits}
 use Rattle.survey.specs.Tally.{noCounts}
-use Rattle.survey.specs.Ends.{withEnds}
 use Rattle.survey.specs.declared.Survey.the-variants.{Counted}
 use Rattle.survey.proofs.FromRoot.{from-empty, from-high, from-bad, from-good, root-valid}
-use Rattle.survey.proofs.WithEnds.{bad-too, from-both}
+use Rattle.survey.proofs.WithEnds.{bad-too, with-none, from-both}
 use Rattle.survey.proofs.survey_both.Statement.{statement}
 use Rattle.survey.proofs.survey_both.Tie as tie
 
@@ -33,12 +32,11 @@ both-requires : tie.Need-both-requires
 both-requires c κs = search needs
 
 returns : tie.Need-returns
-unfolding withEnds
 returns c =
     let a = c .before .before .before .before .before .args in
     let e = sym (c .before .before .before .is-empty-root .ensures) ∙ c .before .before .if1 .taken in
     let k = ap Counted (c .before .count-node .ensures) in
-    (c .both .ensures .0 ∙ k ∙ sym (from-empty false (a .l .capacity) (a .l .pool) (a .s .now) (a .root .0) noCounts e), c .both .ensures .1 ∙ k ∙ sym (from-empty true (a .l .capacity) (a .l .pool) (a .s .now) (a .root .0) noCounts e))
+    (c .both .ensures .0 ∙ k ∙ sym (from-empty false (a .l .capacity) (a .l .pool) (a .s .now) (a .root .0) noCounts e), c .both .ensures .1 ∙ with-none _ _ _ (omega arith) ∙ k ∙ sym (from-empty true (a .l .capacity) (a .l .pool) (a .s .now) (a .root .0) noCounts e))
 
 header-requires : tie.Need-header-requires
 header-requires c κs = search needs
@@ -50,12 +48,11 @@ both-requires-2 : tie.Need-both-requires-2
 both-requires-2 c κs = search needs
 
 returns-2 : tie.Need-returns-2
-unfolding withEnds
 returns-2 c =
     let a = c .before .before .before .before .before .before .before .args in
     let e = sym (c .before .before .before .before .before .is-empty-root .ensures) ∙ c .before .before .before .before .if1 .left in
     let lo : leb (height (a .l .capacity) (a .s .now) (a .root .0)) maxHeight ≡ false = sym (ap (λ (h : RowPageIndexNodeHeader). leb (h .height) maxHeight) (c .before .before .before .header .ensures)) ∙ sym (c .before .before .is-in-height .ensures) ∙ not-true _ (c .before .if2 .taken) in
-    (c .both2 .ensures .0 ∙ sym (from-high false (a .l .capacity) (a .l .pool) (a .s .now) (a .root .0) noCounts e lo), c .both2 .ensures .1 ∙ sym (from-high true (a .l .capacity) (a .l .pool) (a .s .now) (a .root .0) noCounts e lo))
+    (c .both2 .ensures .0 ∙ sym (from-high false (a .l .capacity) (a .l .pool) (a .s .now) (a .root .0) noCounts e lo), c .both2 .ensures .1 ∙ with-none _ _ _ (omega arith) ∙ sym (from-high true (a .l .capacity) (a .l .pool) (a .s .now) (a .root .0) noCounts e lo))
 
 pass-requires : tie.Need-pass-requires
 pass-requires c κs = search needs
@@ -86,14 +83,13 @@ survey-below-requires c κs =
     (c .before .before .before .before .before .before .before .before .before .before .before .before .pre .0, (root-valid false (a .l .capacity) (a .l .pool) (a .s .now) (a .root .0) (leb-true _ _ hi) (c .before .before .before .before .before .before .before .before .before .before .before .before .pre .1) (s .0), s .1))
 
 returns-3 : tie.Need-returns-3
-unfolding withEnds
 returns-3 c =
     let a = c .before .before .before .before .before .before .before .before .before .before .args in
     let e = sym (c .before .before .before .before .before .before .before .before .is-empty-root .ensures) ∙ c .before .before .before .before .before .before .before .if1 .left in
     let hi : leb (height (a .l .capacity) (a .s .now) (a .root .0)) maxHeight ≡ true = sym (ap (λ (h : RowPageIndexNodeHeader). leb (h .height) maxHeight) (c .before .before .before .before .before .before .header .ensures)) ∙ sym (c .before .before .before .before .before .is-in-height .ensures) ∙ not-false _ (c .before .before .before .before .if2 .left) in
     let s = pass-unsound false (a .l .capacity) (a .l .pool) (a .s .now) (a .root .0) (height (a .l .capacity) (a .s .now) (a .root .0)) (start (a .l .capacity) (a .s .now) (a .root .0)) Open (sym (c .before .before .before .pass .ensures ∙ ap (λ (h : RowPageIndexNodeHeader). passTest false (a .l .capacity) (a .l .pool) (a .s .now) (a .root .0) (h .height) (h .«start_row_id» .0) Open) (c .before .before .before .before .before .before .header .ensures)) ∙ c .before .enum-told .given .1) in
     let t = bad-too (a .l .capacity) (height (a .l .capacity) (a .s .now) (a .root .0)) (nodeAt (a .l .capacity) (a .s .now) (a .root .0)) (start (a .l .capacity) (a .s .now) (a .root .0)) Open s in
-    (c .both3 .ensures .0 ∙ sym (from-bad false (a .l .capacity) (a .l .pool) (a .s .now) (a .root .0) noCounts e hi (c .before .before .before .before .before .before .before .before .before .before .pre .1) s), c .both3 .ensures .1 ∙ sym (from-bad true (a .l .capacity) (a .l .pool) (a .s .now) (a .root .0) noCounts e hi (c .before .before .before .before .before .before .before .before .before .before .pre .1) t))
+    (c .both3 .ensures .0 ∙ sym (from-bad false (a .l .capacity) (a .l .pool) (a .s .now) (a .root .0) noCounts e hi (c .before .before .before .before .before .before .before .before .before .before .pre .1) s), c .both3 .ensures .1 ∙ with-none _ _ _ (omega arith) ∙ sym (from-bad true (a .l .capacity) (a .l .pool) (a .s .now) (a .root .0) noCounts e hi (c .before .before .before .before .before .before .before .before .before .before .pre .1) t))
 
 returns-4 : tie.Need-returns-4
 returns-4 c =
