@@ -104,13 +104,13 @@ pub fn both(l: Layout, nodes: Survey, wrong: NodeNo) -> Surveys
     ensures nodes { λ r. ⌜ r .nodes ≡ nodes ⌝ }
     ensures ends { λ r. ⌜ r .ends ≡ withEnds (l .pool) (wrong .0) nodes ⌝ }
 {
-    if wrong.0 < l.pool {
-        return Surveys {
-            nodes,
-            ends: Survey::Unsound(wrong),
-        };
+    if l.pool <= wrong.0 {
+        return Surveys { nodes, ends: nodes };
     }
-    Surveys { nodes, ends: nodes }
+    Surveys {
+        nodes,
+        ends: Survey::Unsound(wrong),
+    }
 }
 
 // What is next, kept as a flag and a row: an enum stored and loaded in a loop is slow, its unused bytes are copied too.
