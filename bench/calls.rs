@@ -70,7 +70,7 @@ fn main() {
         2 => 65_535,
         _ => 2 * n / c + 64,
     };
-    let mut best = [f64::MAX; 10];
+    let mut best = [f64::MAX; 11];
     let mut keep = |i: usize, t: Instant, ops: u64| best[i] = best[i].min(t.elapsed().as_nanos() as f64 / ops as f64);
     let mut words = vec![0u64; (8 + nodes * (4 + 2 * c)) as usize];
     let mut held = 0;
@@ -112,6 +112,9 @@ fn main() {
         let t = Instant::now();
         assert_eq!(black_box(plain::check::<true>(black_box(&words))), held);
         keep(8, t, held);
+        let t = Instant::now();
+        assert_eq!(black_box(plain::check_once::<false>(black_box(&words))), held);
+        keep(10, t, held);
         let (mut row, mut leaves) = (0, 0);
         let t = Instant::now();
         while row < 10 * n {
@@ -143,5 +146,6 @@ fn main() {
     println!("plain_release {:.1}", best[6]);
     println!("release {:.1}", best[7]);
     println!("four_check {:.1}", best[8]);
+    println!("once_check {:.1}", best[10]);
     println!("four_release {:.1}", best[9]);
 }
