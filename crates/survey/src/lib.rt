@@ -113,7 +113,7 @@ pub fn both(l: Layout, nodes: Survey, wrong: NodeNo) -> Surveys
     }
 }
 
-// What is next, kept as a flag and a row: an enum stored and loaded in a loop is slow, its unused bytes are copied too.
+// What is next, as the walk keeps it: a flag and a row. An enum is copied with its unused bytes, which made the walk slower.
 pub fn limit(bounded: bool, row: u64) -> Limit
     ensures { λ r. ⌜ r ≡ limit bounded row ⌝ }
 {
