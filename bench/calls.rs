@@ -75,7 +75,7 @@ fn main() {
         2 => 65_535,
         _ => 2 * n / c + 64,
     };
-    let mut best = [f64::MAX; 12];
+    let mut best = [f64::MAX; 13];
     let mut keep = |i: usize, t: Instant, ops: u64| best[i] = best[i].min(t.elapsed().as_nanos() as f64 / ops as f64);
     let mut words = vec![0u64; (8 + nodes * (4 + 2 * c)) as usize];
     let mut held = 0;
@@ -118,6 +118,9 @@ fn main() {
         let t = Instant::now();
         assert_eq!(black_box(plain::check::<true>(black_box(&words))), held);
         keep(8, t, held);
+        let t = Instant::now();
+        assert_eq!(black_box(plain::check_once::<false>(black_box(&words))), held);
+        keep(10, t, held);
         let (mut row, mut leaves) = (0, 0);
         let t = Instant::now();
         while row < 10 * n {
@@ -129,11 +132,11 @@ fn main() {
         let mut copy = words.clone();
         let t = Instant::now();
         assert_eq!(rattle::prune(black_box(&mut copy), 0, 10 * n, &ids), held - 1);
-        keep(10, t, n);
+        keep(11, t, n);
         copy.copy_from_slice(&words);
         let t = Instant::now();
         black_box(rattle::prune(black_box(&mut copy), 0, 10 * (n / 2), &ids[..n as usize / 2]));
-        keep(11, t, n / 2);
+        keep(12, t, n / 2);
         copy.copy_from_slice(&words);
         let t = Instant::now();
         assert_eq!(plain::destroy::<false>(black_box(&mut copy), &mut others), held);
@@ -157,7 +160,8 @@ fn main() {
     println!("plain_release {:.1}", best[6]);
     println!("release {:.1}", best[7]);
     println!("four_check {:.1}", best[8]);
+    println!("once_check {:.1}", best[10]);
     println!("four_release {:.1}", best[9]);
-    println!("prune {:.1}", best[10]);
-    println!("prune_half {:.1}", best[11]);
+    println!("prune {:.1}", best[11]);
+    println!("prune_half {:.1}", best[12]);
 }

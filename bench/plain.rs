@@ -52,6 +52,10 @@ fn rise<const FOUR: bool>(mut before: u64, pairs: &[u64]) -> bool {
     true
 }
 
+fn end_fits(node: &[u64], height: u64, next: Option<u64>) -> bool {
+    height == 0 || node[3] == NONE || next == Some(node[3])
+}
+
 impl<'a> Store<'a> {
     fn node(&self, n: usize) -> &'a [u64] {
         let size = 4 + 2 * self.capacity;
@@ -85,7 +89,7 @@ impl<'a> Store<'a> {
 
     /// The node test, and with ends the test of a branch's end.
     fn pass<const FOUR: bool>(&self, node: &[u64], ends: bool, height: u64, row: u64, next: Option<u64>) -> Option<usize> {
-        if ends && height != 0 && node[3] != NONE && next != Some(node[3]) {
+        if ends && !end_fits(node, height, next) {
             return None;
         }
         self.test::<FOUR>(node, height, row, next)
@@ -110,6 +114,12 @@ struct Frame<'a> {
 /// As `bench_survey`: the nodes of a sound tree.
 #[inline(never)]
 pub fn survey<const FOUR: bool>(words: &[u64], ends: bool) -> u64 {
+    walk::<FOUR, false>(words, ends)
+}
+
+/// With ONCE, a branch whose end is wrong refuses the tree after all nodes were tested.
+#[inline(always)]
+fn walk<const FOUR: bool, const ONCE: bool>(words: &[u64], ends: bool) -> u64 {
     let Some(s) = open(words) else { return REFUSED };
     let root = s.node(s.root);
     if root[0] == 0 && root[1] == 0 && root[2] <= ROW_LIMIT && root[3] == NONE {
@@ -119,6 +129,7 @@ pub fn survey<const FOUR: bool>(words: &[u64], ends: bool) -> u64 {
         return REFUSED;
     }
     let Some(first) = s.pass::<FOUR>(root, ends, root[0], root[2], None) else { return REFUSED };
+    let mut right = !ONCE || end_fits(root, root[0], None);
     let mut nodes = 1;
     let mut stack = vec![Frame { node: root, index: 0, first, next: None }];
     while let Some(top) = stack.last_mut() {
@@ -136,10 +147,11 @@ pub fn survey<const FOUR: bool>(words: &[u64], ends: bool) -> u64 {
         let next = if index + 1 < count { Some(pairs[2 * index + 2]) } else { top.next };
         let child = s.node(pairs[2 * index + 1] as usize);
         let Some(first) = s.pass::<FOUR>(child, ends, node[0] - 1, pairs[2 * index], next) else { return REFUSED };
+        right &= !ONCE || end_fits(child, node[0] - 1, next);
         nodes += 1;
         stack.push(Frame { node: child, index: 0, first, next });
     }
-    nodes
+    if right { nodes } else { REFUSED }
 }
 
 /// As `bench_check`: both readings of the tree, then the chain and the counts.
@@ -149,6 +161,21 @@ pub fn check<const FOUR: bool>(words: &[u64]) -> u64 {
     if nodes == REFUSED || survey::<FOUR>(words, true) == REFUSED {
         return REFUSED;
     }
+    chain(words, nodes)
+}
+
+/// The same, with the tree read once.
+#[inline(never)]
+pub fn check_once<const FOUR: bool>(words: &[u64]) -> u64 {
+    match walk::<FOUR, true>(words, false) {
+        REFUSED => REFUSED,
+        nodes => chain(words, nodes),
+    }
+}
+
+/// The chain and the counts, after a tree of so many nodes.
+#[inline(always)]
+fn chain(words: &[u64], nodes: u64) -> u64 {
     let Some(s) = open(words) else { return REFUSED };
     let mut n = words[3];
     for _ in 0..words[4] {

@@ -35,19 +35,16 @@ module _ (C P : ℕ) (w : List ℕ) (n i : ℕ) where
     ends-turn l d = let e : suc (i - 1) - 1 ≡ i - 1 = omega arith in rw (again, lt-ltb n P l, eq-eqb (height C w n) freeMark d, e)
 
 -- after a tree with counts k
-module _ (h : StoreHeader) (w : List ℕ) (k : Counts) where
-  abbrev chain : Bool
-  chain = chainEnds (h .layout .capacity) (h .layout .pool) w (h .«free_head» .0) (h .«free_count»)
-
-  pub end-chain : chain ≡ false → ending h w k ≡ damaged
+module _ (h : StoreHeader) (k : Counts) (chain : Bool) where
+  pub end-chain : chain ≡ false → ending h k chain ≡ damaged
   unfolding ending
   end-chain c = rw c
 
   module _ (c : chain ≡ true) (l : h .«free_count» ≤ h .layout .pool) where
-    pub end-count : (k .nodes ≡ h .layout .pool - h .«free_count» → ⊥) → ending h w k ≡ damaged
+    pub end-count : (k .nodes ≡ h .layout .pool - h .«free_count» → ⊥) → ending h k chain ≡ damaged
     unfolding ending
     end-count d = rw (c, ne-eqb (k .nodes + h .«free_count») (h .layout .pool) (λ e. d (omega arith)))
 
-    pub end-held : k .nodes ≡ h .layout .pool - h .«free_count» → ending h w k ≡ result (k .entries ∷ k .nodes ∷ h .«free_count» ∷ [])
+    pub end-held : k .nodes ≡ h .layout .pool - h .«free_count» → ending h k chain ≡ result (k .entries ∷ k .nodes ∷ h .«free_count» ∷ [])
     unfolding ending
     end-held d = rw (c, eq-eqb (k .nodes + h .«free_count») (h .layout .pool) (omega arith))

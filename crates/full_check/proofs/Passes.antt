@@ -6,7 +6,7 @@ use mathlib.Core.Path.{_≡_, sym, _∙_, subst}
 use lib.ListN.{length}
 use Rattle.model.specs.Words.{capacity, pool, root}
 use Rattle.model.specs.Reading.{Visit, clear, firstBad, rootVisits, rootEntries, rootNodes}
-use Rattle.model.specs.FullCheck.{fullCheck}
+use Rattle.model.specs.FullCheck.{chainEnds, fullCheck}
 use Rattle.model.specs.Refusals.{Answer, refused}
 use Rattle.formed.proofs.Rooted.{root-sound}
 use Rattle.node.specs.Layout.{storeHeader}
@@ -61,7 +61,7 @@ module _ (w : List ℕ) where
           (cc, cc)
 
       -- all but the chain
-      pub both-clear : (j : Counts) → reading h true ≡ Counted j → fullCheck w ≡ ending h w k
+      pub both-clear : (j : Counts) → reading h true ≡ Counted j → fullCheck w ≡ ending h k (chainEnds (h .layout .capacity) (h .layout .pool) w (h .«free_head» .0) (h .«free_count»))
       unfolding fullCheck ending
       both-clear j f =
           goes-on w h o (λ (a : Answer). a) _

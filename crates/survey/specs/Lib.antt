@@ -1,2 +1,4 @@
 pub mod Tally
 pub mod Leaves
+pub mod Ends
+pub mod Limits

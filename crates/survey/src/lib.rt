@@ -1,16 +1,22 @@
-// A reading of the whole tree: its first unsound node, or how many nodes, leaves and entries it has.
+// A reading of the whole tree: its first unsound node, or how many nodes, leaves and entries it has. With ends, a branch
+// whose end is wrong is taken for unsound.
 
 ghost use mathlib.Core.Path.{_≡_};
+ghost use mathlib.Core.Bool.{true, false};
 ghost use mathlib.Core.List.{[], _∷_};
 ghost use Prim.Native.Nat.{_+_, _-_, _≤_, _<_};
 ghost use Rattle.model.specs.Words.{count, height};
 ghost use Rattle.model.specs.Reading.{rootVisits};
 ghost use Rattle.model.specs.Paths.{entered};
 ghost use Rattle.node.specs.Layout.{Fits};
+ghost use Rattle.node.specs.Test.{limitOf};
 ghost use Rattle.walk.specs.Left.{Valid, rest};
 ghost use Rattle.walk.specs.Turn.{outOf};
 ghost use Rattle.survey.specs.Tally.{counted, more, noCounts, tally};
+ghost use Rattle.survey.specs.Ends.{wrongEnd, withEnds};
+ghost use Rattle.survey.specs.Limits.{bounded, limit, rowOf};
 use model::id::NodeNo;
+use model::id::RowID;
 use model::path::Path;
 use model::path::Position;
 use node::layout::Layout;
@@ -34,6 +40,12 @@ impl Counts {
 pub enum Survey {
     Unsound(NodeNo),
     Counted(Counts),
+}
+
+// The reading without ends and the one with ends, made in one walk.
+pub struct Surveys {
+    pub nodes: Survey,
+    pub ends: Survey,
 }
 
 // k and some more, up to what is told apart.
@@ -69,20 +81,81 @@ pub fn count_node(l: Layout, s: &[u64], n: NodeNo, k: Counts) -> Counts
     }
 }
 
-// What is left below a node that was entered, with the counts so far. The path is stored to in place: a copy of it
-// for each node would cost more than the node's test.
+// The first branch whose end is wrong, once sound node n was looked at. Number P stands for none.
+pub fn look_at_end(l: Layout, s: &[u64], n: NodeNo, next: Limit, wrong: NodeNo) -> NodeNo
+    requires { ⌜ Fits l (now s) ⌝ }
+    requires { ⌜ n .0 < l .pool ⌝ }
+    ensures { λ r. ⌜ r .0 ≡ wrongEnd (l .capacity) (l .pool) (now (s .entry)) (n .0) (limitOf next) (wrong .0) ⌝ }
+{
+    let height = l.part(s, n, 0);
+    let end = l.part(s, n, 3);
+    let fits = turn::end_fits(height, next, RowID(end));
+    if fits {
+        return wrong;
+    }
+    if wrong.0 < l.pool {
+        return wrong;
+    }
+    n
+}
+
+// Both readings, by the one without ends and the first wrong end before its last node.
+pub fn both(l: Layout, nodes: Survey, wrong: NodeNo) -> Surveys
+    ensures nodes { λ r. ⌜ r .nodes ≡ nodes ⌝ }
+    ensures ends { λ r. ⌜ r .ends ≡ withEnds (l .pool) (wrong .0) nodes ⌝ }
+{
+    if l.pool <= wrong.0 {
+        return Surveys { nodes, ends: nodes };
+    }
+    Surveys {
+        nodes,
+        ends: Survey::Unsound(wrong),
+    }
+}
+
+// What is next, as the walk keeps it: a flag and a row. An enum is copied with its unused bytes, which made the walk slower.
+pub fn limit(bounded: bool, row: u64) -> Limit
+    ensures { λ r. ⌜ r ≡ limit bounded row ⌝ }
+{
+    if bounded {
+        return Limit::Below(RowID(row));
+    }
+    Limit::Open
+}
+
+pub fn is_bounded(next: Limit) -> bool
+    ensures { λ r. ⌜ r ≡ bounded next ⌝ }
+{
+    match next {
+        Limit::Open => false,
+        Limit::Below(_) => true,
+    }
+}
+
+pub fn row_of(next: Limit) -> u64
+    ensures { λ r. ⌜ r ≡ rowOf next ⌝ }
+{
+    match next {
+        Limit::Open => 0,
+        Limit::Below(row) => row.0,
+    }
+}
+
+// What is left below a node that was entered, with the counts and the first wrong end so far. The path is stored to in
+// place: a copy of it for each node would cost more than the node's test.
 pub fn survey_below(
     l: Layout,
     s: &[u64],
-    ends: bool,
     root: NodeNo,
     first: u64,
     start: Counts,
-) -> Survey
+    seen: NodeNo,
+) -> Surveys
     requires { ⌜ Fits l (now s) ⌝ }
     requires { ⌜ Valid (l .capacity) (l .pool) (now s) (height (l .capacity) (now s) (root .0)) (entered (root .0) ∷ []) ⌝ }
     requires { ⌜ first ≡ outOf (l .capacity) (l .pool) (now s) (height (l .capacity) (now s) (root .0)) (root .0) ⌝ }
-    ensures { λ r. ⌜ r ≡ tally (l .capacity) (now (s .entry)) (rest ends (l .capacity) (l .pool) (now (s .entry)) (height (l .capacity) (now (s .entry)) (root .0)) (entered (root .0) ∷ [])) start ⌝ }
+    ensures nodes { λ r. ⌜ r .nodes ≡ tally (l .capacity) (now (s .entry)) (rest false (l .capacity) (l .pool) (now (s .entry)) (height (l .capacity) (now (s .entry)) (root .0)) (entered (root .0) ∷ [])) start ⌝ }
+    ensures ends { λ r. ⌜ r .ends ≡ withEnds (l .pool) (seen .0) (tally (l .capacity) (now (s .entry)) (rest true (l .capacity) (l .pool) (now (s .entry)) (height (l .capacity) (now (s .entry)) (root .0)) (entered (root .0) ∷ [])) start) ⌝ }
 {
     let mut path = Path {
         positions: [Position {
@@ -91,9 +164,11 @@ pub fn survey_below(
         }; 32],
         depth: 1,
     };
-    let mut nexts = [Limit::Open; 32];
+    let mut bounded = [false; 32];
+    let mut rows = [0; 32];
     let mut firsts = [first; 32];
     let mut counts = start;
+    let mut wrong = seen;
     while 0 < path.depth {
         let depth = path.depth;
         let at = depth - 1;
@@ -106,12 +181,12 @@ pub fn survey_below(
         } else {
             let out = firsts[at];
             if out <= index {
-                return Survey::Unsound(node);
+                return both(l, Survey::Unsound(node), wrong);
             }
-            let next = nexts[at];
-            match turn::enter(l, s, ends, node, index, next) {
+            let next = limit(bounded[at], rows[at]);
+            match turn::enter(l, s, false, node, index, next) {
                 Entered::Bad(n) => {
-                    return Survey::Unsound(n);
+                    return both(l, Survey::Unsound(n), wrong);
                 }
                 Entered::Child(child, beyond, inner) => {
                     path.positions[at] = Position {
@@ -122,41 +197,60 @@ pub fn survey_below(
                         node: child,
                         index: 0,
                     };
-                    nexts[depth] = beyond;
+                    bounded[depth] = is_bounded(beyond);
+                    rows[depth] = row_of(beyond);
                     firsts[depth] = inner;
                     path.depth = depth + 1;
                     counts = count_node(l, s, child, counts);
+                    wrong = look_at_end(l, s, child, beyond, wrong);
                 }
             }
         }
     }
-    Survey::Counted(counts)
+    both(l, Survey::Counted(counts), wrong)
 }
 
-// The whole tree from the root of an open store.
-pub fn survey_tree(l: Layout, s: &[u64], ends: bool, root: NodeNo) -> Survey
+// Both readings of the whole tree from the root of an open store.
+pub fn survey_both(l: Layout, s: &[u64], root: NodeNo) -> Surveys
     requires { ⌜ Fits l (now s) ⌝ }
     requires { ⌜ root .0 < l .pool ⌝ }
-    ensures { λ r. ⌜ r ≡ tally (l .capacity) (now (s .entry)) (rootVisits ends (l .capacity) (l .pool) (now (s .entry)) (root .0)) noCounts ⌝ }
+    ensures nodes { λ r. ⌜ r .nodes ≡ tally (l .capacity) (now (s .entry)) (rootVisits false (l .capacity) (l .pool) (now (s .entry)) (root .0)) noCounts ⌝ }
+    ensures ends { λ r. ⌜ r .ends ≡ tally (l .capacity) (now (s .entry)) (rootVisits true (l .capacity) (l .pool) (now (s .entry)) (root .0)) noCounts ⌝ }
 {
-    let none = Counts {
+    let none = NodeNo(l.pool);
+    let zero = Counts {
         nodes: 0,
         leaves: 0,
         entries: 0,
     };
     let empty = test::is_empty_root(l, s, root);
     if empty {
-        return Survey::Counted(count_node(l, s, root, none));
+        let counts = count_node(l, s, root, zero);
+        return both(l, Survey::Counted(counts), none);
     }
     let h = l.header(s, root);
     if !h.is_in_height() {
-        return Survey::Unsound(root);
+        return both(l, Survey::Unsound(root), none);
     }
-    match turn::pass(l, s, ends, root, h.height, h.start_row_id, Limit::Open) {
-        NodeTest::Unsound => Survey::Unsound(root),
+    match turn::pass(l, s, false, root, h.height, h.start_row_id, Limit::Open) {
+        NodeTest::Unsound => both(l, Survey::Unsound(root), none),
         NodeTest::Sound(first) => {
-            let counts = count_node(l, s, root, none);
-            survey_below(l, s, ends, root, first, counts)
+            let counts = count_node(l, s, root, zero);
+            let wrong = look_at_end(l, s, root, Limit::Open, none);
+            survey_below(l, s, root, first, counts, wrong)
         }
     }
+}
+
+// One reading.
+pub fn survey_tree(l: Layout, s: &[u64], ends: bool, root: NodeNo) -> Survey
+    requires { ⌜ Fits l (now s) ⌝ }
+    requires { ⌜ root .0 < l .pool ⌝ }
+    ensures { λ r. ⌜ r ≡ tally (l .capacity) (now (s .entry)) (rootVisits ends (l .capacity) (l .pool) (now (s .entry)) (root .0)) noCounts ⌝ }
+{
+    let surveys = survey_both(l, s, root);
+    if ends {
+        return surveys.ends;
+    }
+    surveys.nodes
 }

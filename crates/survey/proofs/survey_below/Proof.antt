@@ -12,23 +12,28 @@ use Rattle.model.specs.Words.{part, height, count, child}
 use Rattle.model.specs.Paths.{stack, trail, lastOf, above, entered}
 use Rattle.node.specs.Test.{limitOf}
 use Rattle.walk.specs.Left.{bound, Valid, left, rest}
-use Rattle.walk.specs.Turn.{hasChild, enteredOf}
+use Rattle.walk.specs.Turn.{hasChild, enteredOf, entering}
 use Rattle.walk.proofs.Valid.{valid-top, valid-path}
 use Rattle.walk.proofs.Branch.{went, barred, branch}
 use Rattle.survey.specs.Tally.{tally}
-use Rattle.survey.proofs.Going.{Going, Beside, start-going, done, going-out, less-out, inside, deep, going-far, ranged, going-bad, narrow, going-in, less-in}
+use Rattle.survey.specs.Ends.{withEnds}
+use Rattle.survey.specs.Limits.{limit, limits}
+use Rattle.survey.proofs.Going.{less-out, inside, deep, ranged, narrow, less-in}
+use Rattle.survey.proofs.Limits.{many-flags, many-rows, set-limits, next-at}
+use Rattle.survey.proofs.WithEnds.{Both, start-both, both-done, both-out, both-far, both-bad, both-in}
 use Rattle.survey.proofs.survey_below.Statement.{statement}
 use Rattle.survey.proofs.survey_below.Tie as tie
 
 abbrev Inv-loop : tie.InvT-loop
-Inv-loop l s ends first path₀ nexts₀ firsts₀ counts₀ path nexts firsts counts =
-    Going (l .capacity) (l .pool) s ends (tally (l .capacity) s (left ends (l .capacity) (l .pool) s path₀) counts₀) path nexts firsts counts
+Inv-loop l s first path₀ bounded₀ rows₀ firsts₀ counts₀ wrong₀ path bounded rows firsts counts wrong =
+    Both (l .capacity) (l .pool) s (tally (l .capacity) s (left false (l .capacity) (l .pool) s path₀) counts₀) (withEnds (l .pool) (wrong₀ .0) (tally (l .capacity) s (left true (l .capacity) (l .pool) s path₀) counts₀)) path (limits bounded rows) firsts counts (wrong .0)
 
 abbrev μ-loop : tie.MeasureT-loop
-μ-loop l s ends first path₀ nexts₀ firsts₀ counts₀ path nexts firsts counts = length (left ends (l .capacity) (l .pool) s path)
+μ-loop l s first path₀ bounded₀ rows₀ firsts₀ counts₀ wrong₀ path bounded rows firsts counts wrong = length (left false (l .capacity) (l .pool) s path)
 
 loop-holds : tie.Need-loop-holds Inv-loop μ-loop
-loop-holds c = let a = c .before .args in start-going (a .l .capacity) (a .l .pool) (a .s .now) (a .ends) (a .root .0) (a .first) _ (c .before .pre .1 .0) (c .before .pre .1 .1)
+unfolding limits limit
+loop-holds c = let a = c .before .args in start-both (a .l .capacity) (a .l .pool) (a .s .now) (a .root .0) (a .first) _ _ (c .before .pre .1 .0) (c .before .pre .1 .1)
 
 sub-at : tie.Need-sub-at Inv-loop μ-loop
 sub-at c = search needs
@@ -36,189 +41,265 @@ sub-at c = search needs
 mul-top : tie.Need-mul-top Inv-loop μ-loop
 mul-top c =
     let a = c .before .before .before .args in
-    let p = c .before .loop .path in
-    let G = c .before .loop .inv in
+    let x = c .before .loop in
     let z = c .loop-test .taken in
-    omega (arith, valid-top (a .l .capacity) (a .l .pool) (a .s .now) p z (G .valid) .deep)
+    omega (arith, valid-top (a .l .capacity) (a .l .pool) (a .s .now) (x .path) z (x .inv .nodes .valid) .deep, x .inv .nodes .long, x .inv .nodes .long-next, x .inv .nodes .long-first, many-flags (x .bounded) (x .rows), many-rows (x .bounded) (x .rows))
 
 element-copy-out-top : tie.Need-element-copy-out-top Inv-loop μ-loop
 element-copy-out-top c =
     let a = c .before .before .before .args in
-    let p = c .before .loop .path in
-    let G = c .before .loop .inv in
+    let x = c .before .loop in
     let z = c .loop-test .taken in
-    omega (arith, G .long, valid-top (a .l .capacity) (a .l .pool) (a .s .now) p z (G .valid) .deep)
+    omega (arith, valid-top (a .l .capacity) (a .l .pool) (a .s .now) (x .path) z (x .inv .nodes .valid) .deep, x .inv .nodes .long, x .inv .nodes .long-next, x .inv .nodes .long-first, many-flags (x .bounded) (x .rows), many-rows (x .bounded) (x .rows))
 
 has-child-requires : tie.Need-has-child-requires Inv-loop μ-loop
 has-child-requires c κs =
     let a = c .before .before .before .before .before .args in
-    let p = c .before .before .before .loop .path in
-    let G = c .before .before .before .loop .inv in
+    let x = c .before .before .before .loop in
     let z = c .before .before .loop-test .taken in
-    (c .before .before .before .before .before .pre .0, valid-top (a .l .capacity) (a .l .pool) (a .s .now) p z (G .valid) .inside)
+    (c .before .before .before .before .before .pre .0, valid-top (a .l .capacity) (a .l .pool) (a .s .now) (x .path) z (x .inv .nodes .valid) .inside)
 
 loop-less : tie.Need-loop-less Inv-loop μ-loop
 loop-less c =
     let a = c .before .before .before .before .before .before .before .args in
-    let none : hasChild (a .l .capacity) (a .s .now) (lastOf (c .before .before .before .before .before .loop .path) .node .0) (lastOf (c .before .before .before .before .before .loop .path) .index) ≡ false = sym (c .before .has-child .ensures) ∙ not-true _ (c .if1 .taken) in
-    less-out (a .l .capacity) (a .l .pool) (a .s .now) (a .ends) _ (c .before .before .before .before .before .loop .path) (c .before .before .before .before .before .loop .nexts) (c .before .before .before .before .before .loop .firsts) (c .before .before .before .before .before .loop .counts) (c .before .before .before .before .before .loop .inv) (c .before .before .before .before .loop-test .taken) none
+    let x = c .before .before .before .before .before .loop in
+    let z = c .before .before .before .before .loop-test .taken in
+    let has : hasChild (a .l .capacity) (a .s .now) (lastOf (x .path) .node .0) (lastOf (x .path) .index) ≡ false = sym (c .before .has-child .ensures) ∙ not-true _ (c .if1 .taken) in
+    less-out (a .l .capacity) (a .l .pool) (a .s .now) false _ (x .path) (limits (x .bounded) (x .rows)) (x .firsts) (x .counts) (x .inv .nodes) z has
 
 loop-again : tie.Need-loop-again Inv-loop μ-loop
 loop-again c =
     let a = c .before .before .before .before .before .before .before .args in
-    let none : hasChild (a .l .capacity) (a .s .now) (lastOf (c .before .before .before .before .before .loop .path) .node .0) (lastOf (c .before .before .before .before .before .loop .path) .index) ≡ false = sym (c .before .has-child .ensures) ∙ not-true _ (c .if1 .taken) in
-    going-out (a .l .capacity) (a .l .pool) (a .s .now) (a .ends) _ (c .before .before .before .before .before .loop .path) (c .before .before .before .before .before .loop .nexts) (c .before .before .before .before .before .loop .firsts) (c .before .before .before .before .before .loop .counts) (c .before .before .before .before .before .loop .inv) (c .before .before .before .before .loop-test .taken) none
+    let x = c .before .before .before .before .before .loop in
+    let z = c .before .before .before .before .loop-test .taken in
+    let has : hasChild (a .l .capacity) (a .s .now) (lastOf (x .path) .node .0) (lastOf (x .path) .index) ≡ false = sym (c .before .has-child .ensures) ∙ not-true _ (c .if1 .taken) in
+    both-out (a .l .capacity) (a .l .pool) (a .s .now) _ _ (x .path) (limits (x .bounded) (x .rows)) (x .firsts) (x .counts) (x .wrong .0) (x .inv) z has
 
 mul-out : tie.Need-mul-out Inv-loop μ-loop
 mul-out c =
     let a = c .before .before .before .before .before .before .before .args in
-    let p = c .before .before .before .before .before .loop .path in
-    let G = c .before .before .before .before .before .loop .inv in
+    let x = c .before .before .before .before .before .loop in
     let z = c .before .before .before .before .loop-test .taken in
-    omega (arith, valid-top (a .l .capacity) (a .l .pool) (a .s .now) p z (G .valid) .deep)
+    omega (arith, valid-top (a .l .capacity) (a .l .pool) (a .s .now) (x .path) z (x .inv .nodes .valid) .deep, x .inv .nodes .long, x .inv .nodes .long-next, x .inv .nodes .long-first, many-flags (x .bounded) (x .rows), many-rows (x .bounded) (x .rows))
 
 array-read-out : tie.Need-array-read-out Inv-loop μ-loop
 array-read-out c =
     let a = c .before .before .before .before .before .before .before .args in
-    let p = c .before .before .before .before .before .loop .path in
-    let G = c .before .before .before .before .before .loop .inv in
+    let x = c .before .before .before .before .before .loop in
     let z = c .before .before .before .before .loop-test .taken in
-    omega (arith, G .long-first, valid-top (a .l .capacity) (a .l .pool) (a .s .now) p z (G .valid) .deep)
+    omega (arith, valid-top (a .l .capacity) (a .l .pool) (a .s .now) (x .path) z (x .inv .nodes .valid) .deep, x .inv .nodes .long, x .inv .nodes .long-next, x .inv .nodes .long-first, many-flags (x .bounded) (x .rows), many-rows (x .bounded) (x .rows))
+
+both-requires : tie.Need-both-requires Inv-loop μ-loop
+both-requires c κs = search needs
 
 returns : tie.Need-returns Inv-loop μ-loop
 returns c =
-    let a = c .before .before .before .before .before .before .before .before .args in
-    let has : hasChild (a .l .capacity) (a .s .now) (lastOf (c .before .before .before .before .before .before .loop .path) .node .0) (lastOf (c .before .before .before .before .before .before .loop .path) .index) ≡ true = sym (c .before .before .has-child .ensures) ∙ not-false _ (c .before .if1 .left) in
-    going-far (a .l .capacity) (a .l .pool) (a .s .now) (a .ends) _ (c .before .before .before .before .before .before .loop .path) (c .before .before .before .before .before .before .loop .nexts) (c .before .before .before .before .before .before .loop .firsts) (c .before .before .before .before .before .before .loop .counts) (c .before .before .before .before .before .before .loop .inv) (c .before .before .before .before .before .loop-test .taken) has (c .if2 .taken) ∙ ap (λ (vs : List Visit). tally (a .l .capacity) (a .s .now) vs (a .start)) (rooted-left (a .ends) (a .l .capacity) (a .l .pool) (a .s .now) (a .root .0) (c .before .before .before .before .before .before .before .before .pre .1 .0))
+    let a = c .before .before .before .before .before .before .before .before .before .args in
+    let x = c .before .before .before .before .before .before .before .loop in
+    let z = c .before .before .before .before .before .before .loop-test .taken in
+    let has : hasChild (a .l .capacity) (a .s .now) (lastOf (x .path) .node .0) (lastOf (x .path) .index) ≡ true = sym (c .before .before .before .has-child .ensures) ∙ not-false _ (c .before .before .if1 .left) in
+    let q = both-far (a .l .capacity) (a .l .pool) (a .s .now) _ _ (x .path) (limits (x .bounded) (x .rows)) (x .firsts) (x .counts) (x .wrong .0) (x .inv) z has (c .before .if2 .taken) in
+    (c .both .ensures .0 ∙ q .0 ∙ ap (λ (vs : List Visit). tally (a .l .capacity) (a .s .now) vs (a .start)) (rooted-left false (a .l .capacity) (a .l .pool) (a .s .now) (a .root .0) (c .before .before .before .before .before .before .before .before .before .pre .1 .0)), c .both .ensures .1 ∙ q .1 ∙ ap (λ (vs : List Visit). withEnds (a .l .pool) (a .seen .0) (tally (a .l .capacity) (a .s .now) vs (a .start))) (rooted-left true (a .l .capacity) (a .l .pool) (a .s .now) (a .root .0) (c .before .before .before .before .before .before .before .before .before .pre .1 .0)))
 
-mul-next : tie.Need-mul-next Inv-loop μ-loop
-mul-next c =
+array-read-limit : tie.Need-array-read-limit Inv-loop μ-loop
+array-read-limit c =
     let a = c .before .before .before .before .before .before .before .before .args in
-    let p = c .before .before .before .before .before .before .loop .path in
-    let G = c .before .before .before .before .before .before .loop .inv in
+    let x = c .before .before .before .before .before .before .loop in
     let z = c .before .before .before .before .before .loop-test .taken in
-    omega (arith, valid-top (a .l .capacity) (a .l .pool) (a .s .now) p z (G .valid) .deep)
+    omega (arith, valid-top (a .l .capacity) (a .l .pool) (a .s .now) (x .path) z (x .inv .nodes .valid) .deep, x .inv .nodes .long, x .inv .nodes .long-next, x .inv .nodes .long-first, many-flags (x .bounded) (x .rows), many-rows (x .bounded) (x .rows))
 
-array-copy-out-next : tie.Need-array-copy-out-next Inv-loop μ-loop
-array-copy-out-next c =
+mul-limit : tie.Need-mul-limit Inv-loop μ-loop
+mul-limit c =
     let a = c .before .before .before .before .before .before .before .before .args in
-    let p = c .before .before .before .before .before .before .loop .path in
-    let G = c .before .before .before .before .before .before .loop .inv in
+    let x = c .before .before .before .before .before .before .loop in
     let z = c .before .before .before .before .before .loop-test .taken in
-    omega (arith, G .long-next, valid-top (a .l .capacity) (a .l .pool) (a .s .now) p z (G .valid) .deep)
+    omega (arith, valid-top (a .l .capacity) (a .l .pool) (a .s .now) (x .path) z (x .inv .nodes .valid) .deep, x .inv .nodes .long, x .inv .nodes .long-next, x .inv .nodes .long-first, many-flags (x .bounded) (x .rows), many-rows (x .bounded) (x .rows))
+
+array-read-limit-2 : tie.Need-array-read-limit-2 Inv-loop μ-loop
+array-read-limit-2 c =
+    let a = c .before .before .before .before .before .before .before .before .args in
+    let x = c .before .before .before .before .before .before .loop in
+    let z = c .before .before .before .before .before .loop-test .taken in
+    omega (arith, valid-top (a .l .capacity) (a .l .pool) (a .s .now) (x .path) z (x .inv .nodes .valid) .deep, x .inv .nodes .long, x .inv .nodes .long-next, x .inv .nodes .long-first, many-flags (x .bounded) (x .rows), many-rows (x .bounded) (x .rows))
+
+limit-requires : tie.Need-limit-requires Inv-loop μ-loop
+limit-requires c κs = search needs
 
 enter-requires : tie.Need-enter-requires Inv-loop μ-loop
 enter-requires c κs =
     let a = c .before .before .before .before .before .before .before .before .before .args in
-    let p = c .before .before .before .before .before .before .before .loop .path in
-    let G = c .before .before .before .before .before .before .before .loop .inv in
+    let x = c .before .before .before .before .before .before .before .loop in
     let z = c .before .before .before .before .before .before .loop-test .taken in
-    let has : hasChild (a .l .capacity) (a .s .now) (lastOf (c .before .before .before .before .before .before .before .loop .path) .node .0) (lastOf (c .before .before .before .before .before .before .before .loop .path) .index) ≡ true = sym (c .before .before .before .has-child .ensures) ∙ not-false _ (c .before .before .if1 .left) in
-    let t = valid-top (a .l .capacity) (a .l .pool) (a .s .now) p z (G .valid) in
-    let b = branch (a .l .capacity) (a .s .now) (lastOf p .node .0) (lastOf p .index) has in
-    (c .before .before .before .before .before .before .before .before .before .pre .0, (t .inside, b .0, b .1, t .narrow, ranged (a .l .capacity) (a .l .pool) (a .s .now) (a .ends) _ (c .before .before .before .before .before .before .before .loop .path) (c .before .before .before .before .before .before .before .loop .nexts) (c .before .before .before .before .before .before .before .loop .firsts) (c .before .before .before .before .before .before .before .loop .counts) (c .before .before .before .before .before .before .before .loop .inv) (c .before .before .before .before .before .before .loop-test .taken) has (c .before .if2 .left)))
+    let has : hasChild (a .l .capacity) (a .s .now) (lastOf (x .path) .node .0) (lastOf (x .path) .index) ≡ true = sym (c .before .before .before .has-child .ensures) ∙ not-false _ (c .before .before .if1 .left) in
+    let t = valid-top (a .l .capacity) (a .l .pool) (a .s .now) (x .path) z (x .inv .nodes .valid) in
+    let h = branch (a .l .capacity) (a .s .now) (lastOf (x .path) .node .0) (lastOf (x .path) .index) has in
+    (c .before .before .before .before .before .before .before .before .before .pre .0, (t .inside, h .0, h .1, t .narrow, ranged (a .l .capacity) (a .l .pool) (a .s .now) false _ (x .path) (limits (x .bounded) (x .rows)) (x .firsts) (x .counts) (x .inv .nodes) z has (c .before .if2 .left)))
 
 enum-known-n : tie.Need-enum-known-n Inv-loop μ-loop
 enum-known-n c = search needs
 
+both-requires-2 : tie.Need-both-requires-2 Inv-loop μ-loop
+both-requires-2 c κs = search needs
+
 returns-2 : tie.Need-returns-2 Inv-loop μ-loop
 returns-2 c =
-    let a = c .before .before .before .before .before .before .before .before .before .before .before .before .before .args in
-    let has : hasChild (a .l .capacity) (a .s .now) (lastOf (c .before .before .before .before .before .before .before .before .before .before .before .loop .path) .node .0) (lastOf (c .before .before .before .before .before .before .before .before .before .before .before .loop .path) .index) ≡ true = sym (c .before .before .before .before .before .before .before .has-child .ensures) ∙ not-false _ (c .before .before .before .before .before .before .if1 .left) in
-    let bd = barred (a .ends) (a .l .capacity) (a .l .pool) (a .s .now) (lastOf (c .before .before .before .before .before .before .before .before .before .before .before .loop .path) .node .0) (lastOf (c .before .before .before .before .before .before .before .before .before .before .before .loop .path) .index) _ _ (sym (ap enteredOf (c .before .n .given .1)) ∙ c .before .before .before .enter .ensures) in
-    going-bad (a .l .capacity) (a .l .pool) (a .s .now) (a .ends) _ (c .before .before .before .before .before .before .before .before .before .before .before .loop .path) (c .before .before .before .before .before .before .before .before .before .before .before .loop .nexts) (c .before .before .before .before .before .before .before .before .before .before .before .loop .firsts) (c .before .before .before .before .before .before .before .before .before .before .before .loop .counts) (c .before .before .before .before .before .before .before .before .before .before .before .loop .inv) (c .before .before .before .before .before .before .before .before .before .before .loop-test .taken) has (c .before .before .before .before .before .if2 .left) _ bd ∙ ap (λ (vs : List Visit). tally (a .l .capacity) (a .s .now) vs (a .start)) (rooted-left (a .ends) (a .l .capacity) (a .l .pool) (a .s .now) (a .root .0) (c .before .before .before .before .before .before .before .before .before .before .before .before .before .pre .1 .0))
+    let a = c .before .before .before .before .before .before .before .before .before .before .before .before .before .before .args in
+    let x = c .before .before .before .before .before .before .before .before .before .before .before .before .loop in
+    let z = c .before .before .before .before .before .before .before .before .before .before .before .loop-test .taken in
+    let has : hasChild (a .l .capacity) (a .s .now) (lastOf (x .path) .node .0) (lastOf (x .path) .index) ≡ true = sym (c .before .before .before .before .before .before .before .before .has-child .ensures) ∙ not-false _ (c .before .before .before .before .before .before .before .if1 .left) in
+    let at = ap (entering false (a .l .capacity) (a .l .pool) (a .s .now) (lastOf (x .path) .node .0) (lastOf (x .path) .index)) (next-at (a .l .capacity) (a .l .pool) (a .s .now) false _ (x .path) (x .bounded) (x .rows) (x .firsts) (x .counts) (x .inv .nodes) z _ (c .before .before .before .before .before .limit .ensures)) in
+    let bd = barred false (a .l .capacity) (a .l .pool) (a .s .now) (lastOf (x .path) .node .0) (lastOf (x .path) .index) _ _ (sym (ap enteredOf (c .before .before .n .given .1)) ∙ c .before .before .before .before .enter .ensures ∙ at) in
+    let q = both-bad (a .l .capacity) (a .l .pool) (a .s .now) _ _ (x .path) (limits (x .bounded) (x .rows)) (x .firsts) (x .counts) (x .wrong .0) (x .inv) z has (c .before .before .before .before .before .before .if2 .left) _ bd in
+    (c .both2 .ensures .0 ∙ q .0 ∙ ap (λ (vs : List Visit). tally (a .l .capacity) (a .s .now) vs (a .start)) (rooted-left false (a .l .capacity) (a .l .pool) (a .s .now) (a .root .0) (c .before .before .before .before .before .before .before .before .before .before .before .before .before .before .pre .1 .0)), c .both2 .ensures .1 ∙ q .1 ∙ ap (λ (vs : List Visit). withEnds (a .l .pool) (a .seen .0) (tally (a .l .capacity) (a .s .now) vs (a .start))) (rooted-left true (a .l .capacity) (a .l .pool) (a .s .now) (a .root .0) (c .before .before .before .before .before .before .before .before .before .before .before .before .before .before .pre .1 .0)))
 
 enum-known-child : tie.Need-enum-known-child Inv-loop μ-loop
 enum-known-child c = search needs
 
-add-t40 : tie.Need-add-t40 Inv-loop μ-loop
-add-t40 c =
+add-rows : tie.Need-add-rows Inv-loop μ-loop
+add-rows c =
     let a = c .before .before .before .before .before .before .before .before .before .before .before .before .before .args in
-    let p = c .before .before .before .before .before .before .before .before .before .before .before .loop .path in
-    let G = c .before .before .before .before .before .before .before .before .before .before .before .loop .inv in
+    let x = c .before .before .before .before .before .before .before .before .before .before .before .loop in
     let z = c .before .before .before .before .before .before .before .before .before .before .loop-test .taken in
-    let has : hasChild (a .l .capacity) (a .s .now) (lastOf (c .before .before .before .before .before .before .before .before .before .before .before .loop .path) .node .0) (lastOf (c .before .before .before .before .before .before .before .before .before .before .before .loop .path) .index) ≡ true = sym (c .before .before .before .before .before .before .before .has-child .ensures) ∙ not-false _ (c .before .before .before .before .before .before .if1 .left) in
-    omega (arith, inside (a .l .capacity) (a .l .pool) (a .s .now) (a .ends) _ (c .before .before .before .before .before .before .before .before .before .before .before .loop .path) (c .before .before .before .before .before .before .before .before .before .before .before .loop .nexts) (c .before .before .before .before .before .before .before .before .before .before .before .loop .firsts) (c .before .before .before .before .before .before .before .before .before .before .before .loop .counts) (c .before .before .before .before .before .before .before .before .before .before .before .loop .inv) (c .before .before .before .before .before .before .before .before .before .before .loop-test .taken) has, valid-top (a .l .capacity) (a .l .pool) (a .s .now) p z (G .valid) .narrow, c .before .before .before .before .before .before .before .before .before .before .before .before .before .pre .0 .cap-high)
+    let has : hasChild (a .l .capacity) (a .s .now) (lastOf (x .path) .node .0) (lastOf (x .path) .index) ≡ true = sym (c .before .before .before .before .before .before .before .has-child .ensures) ∙ not-false _ (c .before .before .before .before .before .before .if1 .left) in
+    omega (arith, inside (a .l .capacity) (a .l .pool) (a .s .now) false _ (x .path) (limits (x .bounded) (x .rows)) (x .firsts) (x .counts) (x .inv .nodes) z has, valid-top (a .l .capacity) (a .l .pool) (a .s .now) (x .path) z (x .inv .nodes .valid) .narrow, c .before .before .before .before .before .before .before .before .before .before .before .before .before .pre .0 .cap-high)
 
 mul-path : tie.Need-mul-path Inv-loop μ-loop
 mul-path c =
     let a = c .before .before .before .before .before .before .before .before .before .before .before .before .before .args in
-    let has : hasChild (a .l .capacity) (a .s .now) (lastOf (c .before .before .before .before .before .before .before .before .before .before .before .loop .path) .node .0) (lastOf (c .before .before .before .before .before .before .before .before .before .before .before .loop .path) .index) ≡ true = sym (c .before .before .before .before .before .before .before .has-child .ensures) ∙ not-false _ (c .before .before .before .before .before .before .if1 .left) in
-    omega (arith, deep (a .l .capacity) (a .l .pool) (a .s .now) (a .ends) _ (c .before .before .before .before .before .before .before .before .before .before .before .loop .path) (c .before .before .before .before .before .before .before .before .before .before .before .loop .nexts) (c .before .before .before .before .before .before .before .before .before .before .before .loop .firsts) (c .before .before .before .before .before .before .before .before .before .before .before .loop .counts) (c .before .before .before .before .before .before .before .before .before .before .before .loop .inv) (c .before .before .before .before .before .before .before .before .before .before .loop-test .taken) has, c .before .before .before .before .before .before .before .before .before .before .before .loop .inv .long, c .before .before .before .before .before .before .before .before .before .before .before .loop .inv .long-next, c .before .before .before .before .before .before .before .before .before .before .before .loop .inv .long-first)
+    let x = c .before .before .before .before .before .before .before .before .before .before .before .loop in
+    let z = c .before .before .before .before .before .before .before .before .before .before .loop-test .taken in
+    let has : hasChild (a .l .capacity) (a .s .now) (lastOf (x .path) .node .0) (lastOf (x .path) .index) ≡ true = sym (c .before .before .before .before .before .before .before .has-child .ensures) ∙ not-false _ (c .before .before .before .before .before .before .if1 .left) in
+    omega (arith, deep (a .l .capacity) (a .l .pool) (a .s .now) false _ (x .path) (limits (x .bounded) (x .rows)) (x .firsts) (x .counts) (x .inv .nodes) z has, x .inv .nodes .long, x .inv .nodes .long-next, x .inv .nodes .long-first, many-flags (x .bounded) (x .rows), many-rows (x .bounded) (x .rows))
 
 element-set-from-path : tie.Need-element-set-from-path Inv-loop μ-loop
 element-set-from-path c =
     let a = c .before .before .before .before .before .before .before .before .before .before .before .before .before .args in
-    let has : hasChild (a .l .capacity) (a .s .now) (lastOf (c .before .before .before .before .before .before .before .before .before .before .before .loop .path) .node .0) (lastOf (c .before .before .before .before .before .before .before .before .before .before .before .loop .path) .index) ≡ true = sym (c .before .before .before .before .before .before .before .has-child .ensures) ∙ not-false _ (c .before .before .before .before .before .before .if1 .left) in
-    omega (arith, deep (a .l .capacity) (a .l .pool) (a .s .now) (a .ends) _ (c .before .before .before .before .before .before .before .before .before .before .before .loop .path) (c .before .before .before .before .before .before .before .before .before .before .before .loop .nexts) (c .before .before .before .before .before .before .before .before .before .before .before .loop .firsts) (c .before .before .before .before .before .before .before .before .before .before .before .loop .counts) (c .before .before .before .before .before .before .before .before .before .before .before .loop .inv) (c .before .before .before .before .before .before .before .before .before .before .loop-test .taken) has, c .before .before .before .before .before .before .before .before .before .before .before .loop .inv .long, c .before .before .before .before .before .before .before .before .before .before .before .loop .inv .long-next, c .before .before .before .before .before .before .before .before .before .before .before .loop .inv .long-first)
+    let x = c .before .before .before .before .before .before .before .before .before .before .before .loop in
+    let z = c .before .before .before .before .before .before .before .before .before .before .loop-test .taken in
+    let has : hasChild (a .l .capacity) (a .s .now) (lastOf (x .path) .node .0) (lastOf (x .path) .index) ≡ true = sym (c .before .before .before .before .before .before .before .has-child .ensures) ∙ not-false _ (c .before .before .before .before .before .before .if1 .left) in
+    omega (arith, deep (a .l .capacity) (a .l .pool) (a .s .now) false _ (x .path) (limits (x .bounded) (x .rows)) (x .firsts) (x .counts) (x .inv .nodes) z has, x .inv .nodes .long, x .inv .nodes .long-next, x .inv .nodes .long-first, many-flags (x .bounded) (x .rows), many-rows (x .bounded) (x .rows))
 
-mul-t42 : tie.Need-mul-t42 Inv-loop μ-loop
-mul-t42 c =
+mul-t46 : tie.Need-mul-t46 Inv-loop μ-loop
+mul-t46 c =
     let a = c .before .before .before .before .before .before .before .before .before .before .before .before .before .args in
-    let has : hasChild (a .l .capacity) (a .s .now) (lastOf (c .before .before .before .before .before .before .before .before .before .before .before .loop .path) .node .0) (lastOf (c .before .before .before .before .before .before .before .before .before .before .before .loop .path) .index) ≡ true = sym (c .before .before .before .before .before .before .before .has-child .ensures) ∙ not-false _ (c .before .before .before .before .before .before .if1 .left) in
-    omega (arith, deep (a .l .capacity) (a .l .pool) (a .s .now) (a .ends) _ (c .before .before .before .before .before .before .before .before .before .before .before .loop .path) (c .before .before .before .before .before .before .before .before .before .before .before .loop .nexts) (c .before .before .before .before .before .before .before .before .before .before .before .loop .firsts) (c .before .before .before .before .before .before .before .before .before .before .before .loop .counts) (c .before .before .before .before .before .before .before .before .before .before .before .loop .inv) (c .before .before .before .before .before .before .before .before .before .before .loop-test .taken) has, c .before .before .before .before .before .before .before .before .before .before .before .loop .inv .long, c .before .before .before .before .before .before .before .before .before .before .before .loop .inv .long-next, c .before .before .before .before .before .before .before .before .before .before .before .loop .inv .long-first)
+    let x = c .before .before .before .before .before .before .before .before .before .before .before .loop in
+    let z = c .before .before .before .before .before .before .before .before .before .before .loop-test .taken in
+    let has : hasChild (a .l .capacity) (a .s .now) (lastOf (x .path) .node .0) (lastOf (x .path) .index) ≡ true = sym (c .before .before .before .before .before .before .before .has-child .ensures) ∙ not-false _ (c .before .before .before .before .before .before .if1 .left) in
+    omega (arith, deep (a .l .capacity) (a .l .pool) (a .s .now) false _ (x .path) (limits (x .bounded) (x .rows)) (x .firsts) (x .counts) (x .inv .nodes) z has, x .inv .nodes .long, x .inv .nodes .long-next, x .inv .nodes .long-first, many-flags (x .bounded) (x .rows), many-rows (x .bounded) (x .rows))
 
 element-set-from-path-2 : tie.Need-element-set-from-path-2 Inv-loop μ-loop
 element-set-from-path-2 c =
     let a = c .before .before .before .before .before .before .before .before .before .before .before .before .before .args in
-    let has : hasChild (a .l .capacity) (a .s .now) (lastOf (c .before .before .before .before .before .before .before .before .before .before .before .loop .path) .node .0) (lastOf (c .before .before .before .before .before .before .before .before .before .before .before .loop .path) .index) ≡ true = sym (c .before .before .before .before .before .before .before .has-child .ensures) ∙ not-false _ (c .before .before .before .before .before .before .if1 .left) in
-    omega (arith, deep (a .l .capacity) (a .l .pool) (a .s .now) (a .ends) _ (c .before .before .before .before .before .before .before .before .before .before .before .loop .path) (c .before .before .before .before .before .before .before .before .before .before .before .loop .nexts) (c .before .before .before .before .before .before .before .before .before .before .before .loop .firsts) (c .before .before .before .before .before .before .before .before .before .before .before .loop .counts) (c .before .before .before .before .before .before .before .before .before .before .before .loop .inv) (c .before .before .before .before .before .before .before .before .before .before .loop-test .taken) has, c .before .before .before .before .before .before .before .before .before .before .before .loop .inv .long, c .before .before .before .before .before .before .before .before .before .before .before .loop .inv .long-next, c .before .before .before .before .before .before .before .before .before .before .before .loop .inv .long-first)
+    let x = c .before .before .before .before .before .before .before .before .before .before .before .loop in
+    let z = c .before .before .before .before .before .before .before .before .before .before .loop-test .taken in
+    let has : hasChild (a .l .capacity) (a .s .now) (lastOf (x .path) .node .0) (lastOf (x .path) .index) ≡ true = sym (c .before .before .before .before .before .before .before .has-child .ensures) ∙ not-false _ (c .before .before .before .before .before .before .if1 .left) in
+    omega (arith, deep (a .l .capacity) (a .l .pool) (a .s .now) false _ (x .path) (limits (x .bounded) (x .rows)) (x .firsts) (x .counts) (x .inv .nodes) z has, x .inv .nodes .long, x .inv .nodes .long-next, x .inv .nodes .long-first, many-flags (x .bounded) (x .rows), many-rows (x .bounded) (x .rows))
 
-mul-nexts : tie.Need-mul-nexts Inv-loop μ-loop
-mul-nexts c =
-    let a = c .before .before .before .before .before .before .before .before .before .before .before .before .before .args in
-    let has : hasChild (a .l .capacity) (a .s .now) (lastOf (c .before .before .before .before .before .before .before .before .before .before .before .loop .path) .node .0) (lastOf (c .before .before .before .before .before .before .before .before .before .before .before .loop .path) .index) ≡ true = sym (c .before .before .before .before .before .before .before .has-child .ensures) ∙ not-false _ (c .before .before .before .before .before .before .if1 .left) in
-    omega (arith, deep (a .l .capacity) (a .l .pool) (a .s .now) (a .ends) _ (c .before .before .before .before .before .before .before .before .before .before .before .loop .path) (c .before .before .before .before .before .before .before .before .before .before .before .loop .nexts) (c .before .before .before .before .before .before .before .before .before .before .before .loop .firsts) (c .before .before .before .before .before .before .before .before .before .before .before .loop .counts) (c .before .before .before .before .before .before .before .before .before .before .before .loop .inv) (c .before .before .before .before .before .before .before .before .before .before .loop-test .taken) has, c .before .before .before .before .before .before .before .before .before .before .before .loop .inv .long, c .before .before .before .before .before .before .before .before .before .before .before .loop .inv .long-next, c .before .before .before .before .before .before .before .before .before .before .before .loop .inv .long-first)
+is-bounded-requires : tie.Need-is-bounded-requires Inv-loop μ-loop
+is-bounded-requires c κs = search needs
 
-array-set-from-nexts : tie.Need-array-set-from-nexts Inv-loop μ-loop
-array-set-from-nexts c =
-    let a = c .before .before .before .before .before .before .before .before .before .before .before .before .before .args in
-    let has : hasChild (a .l .capacity) (a .s .now) (lastOf (c .before .before .before .before .before .before .before .before .before .before .before .loop .path) .node .0) (lastOf (c .before .before .before .before .before .before .before .before .before .before .before .loop .path) .index) ≡ true = sym (c .before .before .before .before .before .before .before .has-child .ensures) ∙ not-false _ (c .before .before .before .before .before .before .if1 .left) in
-    omega (arith, deep (a .l .capacity) (a .l .pool) (a .s .now) (a .ends) _ (c .before .before .before .before .before .before .before .before .before .before .before .loop .path) (c .before .before .before .before .before .before .before .before .before .before .before .loop .nexts) (c .before .before .before .before .before .before .before .before .before .before .before .loop .firsts) (c .before .before .before .before .before .before .before .before .before .before .before .loop .counts) (c .before .before .before .before .before .before .before .before .before .before .before .loop .inv) (c .before .before .before .before .before .before .before .before .before .before .loop-test .taken) has, c .before .before .before .before .before .before .before .before .before .before .before .loop .inv .long, c .before .before .before .before .before .before .before .before .before .before .before .loop .inv .long-next, c .before .before .before .before .before .before .before .before .before .before .before .loop .inv .long-first)
+array-write-bounded : tie.Need-array-write-bounded Inv-loop μ-loop
+array-write-bounded c =
+    let a = c .before .before .before .before .before .before .before .before .before .before .before .before .before .before .args in
+    let x = c .before .before .before .before .before .before .before .before .before .before .before .before .loop in
+    let z = c .before .before .before .before .before .before .before .before .before .before .before .loop-test .taken in
+    let has : hasChild (a .l .capacity) (a .s .now) (lastOf (x .path) .node .0) (lastOf (x .path) .index) ≡ true = sym (c .before .before .before .before .before .before .before .before .has-child .ensures) ∙ not-false _ (c .before .before .before .before .before .before .before .if1 .left) in
+    omega (arith, deep (a .l .capacity) (a .l .pool) (a .s .now) false _ (x .path) (limits (x .bounded) (x .rows)) (x .firsts) (x .counts) (x .inv .nodes) z has, x .inv .nodes .long, x .inv .nodes .long-next, x .inv .nodes .long-first, many-flags (x .bounded) (x .rows), many-rows (x .bounded) (x .rows))
+
+row-of-requires : tie.Need-row-of-requires Inv-loop μ-loop
+row-of-requires c κs = search needs
+
+mul-rows : tie.Need-mul-rows Inv-loop μ-loop
+mul-rows c =
+    let a = c .before .before .before .before .before .before .before .before .before .before .before .before .before .before .before .args in
+    let x = c .before .before .before .before .before .before .before .before .before .before .before .before .before .loop in
+    let z = c .before .before .before .before .before .before .before .before .before .before .before .before .loop-test .taken in
+    let has : hasChild (a .l .capacity) (a .s .now) (lastOf (x .path) .node .0) (lastOf (x .path) .index) ≡ true = sym (c .before .before .before .before .before .before .before .before .before .has-child .ensures) ∙ not-false _ (c .before .before .before .before .before .before .before .before .if1 .left) in
+    omega (arith, deep (a .l .capacity) (a .l .pool) (a .s .now) false _ (x .path) (limits (x .bounded) (x .rows)) (x .firsts) (x .counts) (x .inv .nodes) z has, x .inv .nodes .long, x .inv .nodes .long-next, x .inv .nodes .long-first, many-flags (x .bounded) (x .rows), many-rows (x .bounded) (x .rows))
+
+array-write-rows : tie.Need-array-write-rows Inv-loop μ-loop
+array-write-rows c =
+    let a = c .before .before .before .before .before .before .before .before .before .before .before .before .before .before .before .args in
+    let x = c .before .before .before .before .before .before .before .before .before .before .before .before .before .loop in
+    let z = c .before .before .before .before .before .before .before .before .before .before .before .before .loop-test .taken in
+    let has : hasChild (a .l .capacity) (a .s .now) (lastOf (x .path) .node .0) (lastOf (x .path) .index) ≡ true = sym (c .before .before .before .before .before .before .before .before .before .has-child .ensures) ∙ not-false _ (c .before .before .before .before .before .before .before .before .if1 .left) in
+    omega (arith, deep (a .l .capacity) (a .l .pool) (a .s .now) false _ (x .path) (limits (x .bounded) (x .rows)) (x .firsts) (x .counts) (x .inv .nodes) z has, x .inv .nodes .long, x .inv .nodes .long-next, x .inv .nodes .long-first, many-flags (x .bounded) (x .rows), many-rows (x .bounded) (x .rows))
 
 mul-firsts : tie.Need-mul-firsts Inv-loop μ-loop
 mul-firsts c =
-    let a = c .before .before .before .before .before .before .before .before .before .before .before .before .before .args in
-    let has : hasChild (a .l .capacity) (a .s .now) (lastOf (c .before .before .before .before .before .before .before .before .before .before .before .loop .path) .node .0) (lastOf (c .before .before .before .before .before .before .before .before .before .before .before .loop .path) .index) ≡ true = sym (c .before .before .before .before .before .before .before .has-child .ensures) ∙ not-false _ (c .before .before .before .before .before .before .if1 .left) in
-    omega (arith, deep (a .l .capacity) (a .l .pool) (a .s .now) (a .ends) _ (c .before .before .before .before .before .before .before .before .before .before .before .loop .path) (c .before .before .before .before .before .before .before .before .before .before .before .loop .nexts) (c .before .before .before .before .before .before .before .before .before .before .before .loop .firsts) (c .before .before .before .before .before .before .before .before .before .before .before .loop .counts) (c .before .before .before .before .before .before .before .before .before .before .before .loop .inv) (c .before .before .before .before .before .before .before .before .before .before .loop-test .taken) has, c .before .before .before .before .before .before .before .before .before .before .before .loop .inv .long, c .before .before .before .before .before .before .before .before .before .before .before .loop .inv .long-next, c .before .before .before .before .before .before .before .before .before .before .before .loop .inv .long-first)
+    let a = c .before .before .before .before .before .before .before .before .before .before .before .before .before .before .before .args in
+    let x = c .before .before .before .before .before .before .before .before .before .before .before .before .before .loop in
+    let z = c .before .before .before .before .before .before .before .before .before .before .before .before .loop-test .taken in
+    let has : hasChild (a .l .capacity) (a .s .now) (lastOf (x .path) .node .0) (lastOf (x .path) .index) ≡ true = sym (c .before .before .before .before .before .before .before .before .before .has-child .ensures) ∙ not-false _ (c .before .before .before .before .before .before .before .before .if1 .left) in
+    omega (arith, deep (a .l .capacity) (a .l .pool) (a .s .now) false _ (x .path) (limits (x .bounded) (x .rows)) (x .firsts) (x .counts) (x .inv .nodes) z has, x .inv .nodes .long, x .inv .nodes .long-next, x .inv .nodes .long-first, many-flags (x .bounded) (x .rows), many-rows (x .bounded) (x .rows))
 
 array-write-firsts : tie.Need-array-write-firsts Inv-loop μ-loop
 array-write-firsts c =
-    let a = c .before .before .before .before .before .before .before .before .before .before .before .before .before .args in
-    let has : hasChild (a .l .capacity) (a .s .now) (lastOf (c .before .before .before .before .before .before .before .before .before .before .before .loop .path) .node .0) (lastOf (c .before .before .before .before .before .before .before .before .before .before .before .loop .path) .index) ≡ true = sym (c .before .before .before .before .before .before .before .has-child .ensures) ∙ not-false _ (c .before .before .before .before .before .before .if1 .left) in
-    omega (arith, deep (a .l .capacity) (a .l .pool) (a .s .now) (a .ends) _ (c .before .before .before .before .before .before .before .before .before .before .before .loop .path) (c .before .before .before .before .before .before .before .before .before .before .before .loop .nexts) (c .before .before .before .before .before .before .before .before .before .before .before .loop .firsts) (c .before .before .before .before .before .before .before .before .before .before .before .loop .counts) (c .before .before .before .before .before .before .before .before .before .before .before .loop .inv) (c .before .before .before .before .before .before .before .before .before .before .loop-test .taken) has, c .before .before .before .before .before .before .before .before .before .before .before .loop .inv .long, c .before .before .before .before .before .before .before .before .before .before .before .loop .inv .long-next, c .before .before .before .before .before .before .before .before .before .before .before .loop .inv .long-first)
+    let a = c .before .before .before .before .before .before .before .before .before .before .before .before .before .before .before .args in
+    let x = c .before .before .before .before .before .before .before .before .before .before .before .before .before .loop in
+    let z = c .before .before .before .before .before .before .before .before .before .before .before .before .loop-test .taken in
+    let has : hasChild (a .l .capacity) (a .s .now) (lastOf (x .path) .node .0) (lastOf (x .path) .index) ≡ true = sym (c .before .before .before .before .before .before .before .before .before .has-child .ensures) ∙ not-false _ (c .before .before .before .before .before .before .before .before .if1 .left) in
+    omega (arith, deep (a .l .capacity) (a .l .pool) (a .s .now) false _ (x .path) (limits (x .bounded) (x .rows)) (x .firsts) (x .counts) (x .inv .nodes) z has, x .inv .nodes .long, x .inv .nodes .long-next, x .inv .nodes .long-first, many-flags (x .bounded) (x .rows), many-rows (x .bounded) (x .rows))
 
 add-path : tie.Need-add-path Inv-loop μ-loop
 add-path c =
-    let a = c .before .before .before .before .before .before .before .before .before .before .before .before .before .args in
-    let has : hasChild (a .l .capacity) (a .s .now) (lastOf (c .before .before .before .before .before .before .before .before .before .before .before .loop .path) .node .0) (lastOf (c .before .before .before .before .before .before .before .before .before .before .before .loop .path) .index) ≡ true = sym (c .before .before .before .before .before .before .before .has-child .ensures) ∙ not-false _ (c .before .before .before .before .before .before .if1 .left) in
-    omega (arith, deep (a .l .capacity) (a .l .pool) (a .s .now) (a .ends) _ (c .before .before .before .before .before .before .before .before .before .before .before .loop .path) (c .before .before .before .before .before .before .before .before .before .before .before .loop .nexts) (c .before .before .before .before .before .before .before .before .before .before .before .loop .firsts) (c .before .before .before .before .before .before .before .before .before .before .before .loop .counts) (c .before .before .before .before .before .before .before .before .before .before .before .loop .inv) (c .before .before .before .before .before .before .before .before .before .before .loop-test .taken) has, c .before .before .before .before .before .before .before .before .before .before .before .loop .inv .long, c .before .before .before .before .before .before .before .before .before .before .before .loop .inv .long-next, c .before .before .before .before .before .before .before .before .before .before .before .loop .inv .long-first)
+    let a = c .before .before .before .before .before .before .before .before .before .before .before .before .before .before .before .args in
+    let x = c .before .before .before .before .before .before .before .before .before .before .before .before .before .loop in
+    let z = c .before .before .before .before .before .before .before .before .before .before .before .before .loop-test .taken in
+    let has : hasChild (a .l .capacity) (a .s .now) (lastOf (x .path) .node .0) (lastOf (x .path) .index) ≡ true = sym (c .before .before .before .before .before .before .before .before .before .has-child .ensures) ∙ not-false _ (c .before .before .before .before .before .before .before .before .if1 .left) in
+    omega (arith, deep (a .l .capacity) (a .l .pool) (a .s .now) false _ (x .path) (limits (x .bounded) (x .rows)) (x .firsts) (x .counts) (x .inv .nodes) z has, x .inv .nodes .long, x .inv .nodes .long-next, x .inv .nodes .long-first, many-flags (x .bounded) (x .rows), many-rows (x .bounded) (x .rows))
 
 count-node-requires : tie.Need-count-node-requires Inv-loop μ-loop
 count-node-requires c κs =
-    let a = c .before .before .before .before .before .before .before .before .before .before .before .before .before .args in
-    let has : hasChild (a .l .capacity) (a .s .now) (lastOf (c .before .before .before .before .before .before .before .before .before .before .before .loop .path) .node .0) (lastOf (c .before .before .before .before .before .before .before .before .before .before .before .loop .path) .index) ≡ true = sym (c .before .before .before .before .before .before .before .has-child .ensures) ∙ not-false _ (c .before .before .before .before .before .before .if1 .left) in
-    let wt = went (a .ends) (a .l .capacity) (a .l .pool) (a .s .now) (lastOf (c .before .before .before .before .before .before .before .before .before .before .before .loop .path) .node .0) (lastOf (c .before .before .before .before .before .before .before .before .before .before .before .loop .path) .index) _ _ _ _ (sym (ap enteredOf (c .before .child .given .1)) ∙ c .before .before .before .enter .ensures) in
-    (c .before .before .before .before .before .before .before .before .before .before .before .before .before .pre .0, narrow (a .l .capacity) (a .l .pool) (a .s .now) (a .ends) _ (c .before .before .before .before .before .before .before .before .before .before .before .loop .path) (c .before .before .before .before .before .before .before .before .before .before .before .loop .nexts) (c .before .before .before .before .before .before .before .before .before .before .before .loop .firsts) (c .before .before .before .before .before .before .before .before .before .before .before .loop .counts) (c .before .before .before .before .before .before .before .before .before .before .before .loop .inv) (c .before .before .before .before .before .before .before .before .before .before .loop-test .taken) has (c .before .before .before .before .before .if2 .left) _ (c .before .child .given .0 .1 .0) _ wt)
+    let a = c .before .before .before .before .before .before .before .before .before .before .before .before .before .before .before .args in
+    let x = c .before .before .before .before .before .before .before .before .before .before .before .before .before .loop in
+    let z = c .before .before .before .before .before .before .before .before .before .before .before .before .loop-test .taken in
+    let has : hasChild (a .l .capacity) (a .s .now) (lastOf (x .path) .node .0) (lastOf (x .path) .index) ≡ true = sym (c .before .before .before .before .before .before .before .before .before .has-child .ensures) ∙ not-false _ (c .before .before .before .before .before .before .before .before .if1 .left) in
+    let at = ap (entering false (a .l .capacity) (a .l .pool) (a .s .now) (lastOf (x .path) .node .0) (lastOf (x .path) .index)) (next-at (a .l .capacity) (a .l .pool) (a .s .now) false _ (x .path) (x .bounded) (x .rows) (x .firsts) (x .counts) (x .inv .nodes) z _ (c .before .before .before .before .before .before .limit .ensures)) in
+    let wt = went false (a .l .capacity) (a .l .pool) (a .s .now) (lastOf (x .path) .node .0) (lastOf (x .path) .index) _ _ _ _ (sym (ap enteredOf (c .before .before .before .child .given .1)) ∙ c .before .before .before .before .before .enter .ensures ∙ at) in
+    (c .before .before .before .before .before .before .before .before .before .before .before .before .before .before .before .pre .0, narrow (a .l .capacity) (a .l .pool) (a .s .now) false _ (x .path) (limits (x .bounded) (x .rows)) (x .firsts) (x .counts) (x .inv .nodes) z has (c .before .before .before .before .before .before .before .if2 .left) _ (c .before .before .before .child .given .0 .1 .0) _ wt)
+
+look-at-end-requires : tie.Need-look-at-end-requires Inv-loop μ-loop
+look-at-end-requires c κs =
+    let a = c .before .before .before .before .before .before .before .before .before .before .before .before .before .before .before .before .args in
+    let x = c .before .before .before .before .before .before .before .before .before .before .before .before .before .before .loop in
+    let z = c .before .before .before .before .before .before .before .before .before .before .before .before .before .loop-test .taken in
+    let has : hasChild (a .l .capacity) (a .s .now) (lastOf (x .path) .node .0) (lastOf (x .path) .index) ≡ true = sym (c .before .before .before .before .before .before .before .before .before .before .has-child .ensures) ∙ not-false _ (c .before .before .before .before .before .before .before .before .before .if1 .left) in
+    let at = ap (entering false (a .l .capacity) (a .l .pool) (a .s .now) (lastOf (x .path) .node .0) (lastOf (x .path) .index)) (next-at (a .l .capacity) (a .l .pool) (a .s .now) false _ (x .path) (x .bounded) (x .rows) (x .firsts) (x .counts) (x .inv .nodes) z _ (c .before .before .before .before .before .before .before .limit .ensures)) in
+    let wt = went false (a .l .capacity) (a .l .pool) (a .s .now) (lastOf (x .path) .node .0) (lastOf (x .path) .index) _ _ _ _ (sym (ap enteredOf (c .before .before .before .before .child .given .1)) ∙ c .before .before .before .before .before .before .enter .ensures ∙ at) in
+    (c .before .before .before .before .before .before .before .before .before .before .before .before .before .before .before .before .pre .0, narrow (a .l .capacity) (a .l .pool) (a .s .now) false _ (x .path) (limits (x .bounded) (x .rows)) (x .firsts) (x .counts) (x .inv .nodes) z has (c .before .before .before .before .before .before .before .before .if2 .left) _ (c .before .before .before .before .child .given .0 .1 .0) _ wt .0)
 
 loop-less-2 : tie.Need-loop-less-2 Inv-loop μ-loop
 loop-less-2 c =
-    let a = c .before .before .before .before .before .before .before .before .before .before .before .before .before .before .args in
-    let has : hasChild (a .l .capacity) (a .s .now) (lastOf (c .before .before .before .before .before .before .before .before .before .before .before .before .loop .path) .node .0) (lastOf (c .before .before .before .before .before .before .before .before .before .before .before .before .loop .path) .index) ≡ true = sym (c .before .before .before .before .before .before .before .before .has-child .ensures) ∙ not-false _ (c .before .before .before .before .before .before .before .if1 .left) in
-    let wt = went (a .ends) (a .l .capacity) (a .l .pool) (a .s .now) (lastOf (c .before .before .before .before .before .before .before .before .before .before .before .before .loop .path) .node .0) (lastOf (c .before .before .before .before .before .before .before .before .before .before .before .before .loop .path) .index) _ _ _ _ (sym (ap enteredOf (c .before .before .child .given .1)) ∙ c .before .before .before .before .enter .ensures) in
-    less-in (a .l .capacity) (a .l .pool) (a .s .now) (a .ends) _ (c .before .before .before .before .before .before .before .before .before .before .before .before .loop .path) (c .before .before .before .before .before .before .before .before .before .before .before .before .loop .nexts) (c .before .before .before .before .before .before .before .before .before .before .before .before .loop .firsts) (c .before .before .before .before .before .before .before .before .before .before .before .before .loop .counts) (c .before .before .before .before .before .before .before .before .before .before .before .before .loop .inv) (c .before .before .before .before .before .before .before .before .before .before .before .loop-test .taken) has (c .before .before .before .before .before .before .if2 .left) _ (c .before .before .child .given .0 .1 .0) _ wt
+    let a = c .before .before .before .before .before .before .before .before .before .before .before .before .before .before .before .before .before .args in
+    let x = c .before .before .before .before .before .before .before .before .before .before .before .before .before .before .before .loop in
+    let z = c .before .before .before .before .before .before .before .before .before .before .before .before .before .before .loop-test .taken in
+    let has : hasChild (a .l .capacity) (a .s .now) (lastOf (x .path) .node .0) (lastOf (x .path) .index) ≡ true = sym (c .before .before .before .before .before .before .before .before .before .before .before .has-child .ensures) ∙ not-false _ (c .before .before .before .before .before .before .before .before .before .before .if1 .left) in
+    let at = ap (entering false (a .l .capacity) (a .l .pool) (a .s .now) (lastOf (x .path) .node .0) (lastOf (x .path) .index)) (next-at (a .l .capacity) (a .l .pool) (a .s .now) false _ (x .path) (x .bounded) (x .rows) (x .firsts) (x .counts) (x .inv .nodes) z _ (c .before .before .before .before .before .before .before .before .limit .ensures)) in
+    let wt = went false (a .l .capacity) (a .l .pool) (a .s .now) (lastOf (x .path) .node .0) (lastOf (x .path) .index) _ _ _ _ (sym (ap enteredOf (c .before .before .before .before .before .child .given .1)) ∙ c .before .before .before .before .before .before .before .enter .ensures ∙ at) in
+    less-in (a .l .capacity) (a .l .pool) (a .s .now) false _ (x .path) (limits (x .bounded) (x .rows)) (x .firsts) (x .counts) (x .inv .nodes) z has (c .before .before .before .before .before .before .before .before .before .if2 .left) _ (c .before .before .before .before .before .child .given .0 .1 .0) _ wt
 
 loop-again-2 : tie.Need-loop-again-2 Inv-loop μ-loop
 loop-again-2 c =
-    let a = c .before .before .before .before .before .before .before .before .before .before .before .before .before .before .args in
-    let has : hasChild (a .l .capacity) (a .s .now) (lastOf (c .before .before .before .before .before .before .before .before .before .before .before .before .loop .path) .node .0) (lastOf (c .before .before .before .before .before .before .before .before .before .before .before .before .loop .path) .index) ≡ true = sym (c .before .before .before .before .before .before .before .before .has-child .ensures) ∙ not-false _ (c .before .before .before .before .before .before .before .if1 .left) in
-    let wt = went (a .ends) (a .l .capacity) (a .l .pool) (a .s .now) (lastOf (c .before .before .before .before .before .before .before .before .before .before .before .before .loop .path) .node .0) (lastOf (c .before .before .before .before .before .before .before .before .before .before .before .before .loop .path) .index) _ _ _ _ (sym (ap enteredOf (c .before .before .child .given .1)) ∙ c .before .before .before .before .enter .ensures) in
-    rw (c .count-node .ensures) (going-in (a .l .capacity) (a .l .pool) (a .s .now) (a .ends) _ (c .before .before .before .before .before .before .before .before .before .before .before .before .loop .path) (c .before .before .before .before .before .before .before .before .before .before .before .before .loop .nexts) (c .before .before .before .before .before .before .before .before .before .before .before .before .loop .firsts) (c .before .before .before .before .before .before .before .before .before .before .before .before .loop .counts) (c .before .before .before .before .before .before .before .before .before .before .before .before .loop .inv) (c .before .before .before .before .before .before .before .before .before .before .before .loop-test .taken) has (c .before .before .before .before .before .before .if2 .left) _ (c .before .before .child .given .0 .1 .0) _ wt)
+    let a = c .before .before .before .before .before .before .before .before .before .before .before .before .before .before .before .before .before .args in
+    let x = c .before .before .before .before .before .before .before .before .before .before .before .before .before .before .before .loop in
+    let z = c .before .before .before .before .before .before .before .before .before .before .before .before .before .before .loop-test .taken in
+    let has : hasChild (a .l .capacity) (a .s .now) (lastOf (x .path) .node .0) (lastOf (x .path) .index) ≡ true = sym (c .before .before .before .before .before .before .before .before .before .before .before .has-child .ensures) ∙ not-false _ (c .before .before .before .before .before .before .before .before .before .before .if1 .left) in
+    let at = ap (entering false (a .l .capacity) (a .l .pool) (a .s .now) (lastOf (x .path) .node .0) (lastOf (x .path) .index)) (next-at (a .l .capacity) (a .l .pool) (a .s .now) false _ (x .path) (x .bounded) (x .rows) (x .firsts) (x .counts) (x .inv .nodes) z _ (c .before .before .before .before .before .before .before .before .limit .ensures)) in
+    let wt = went false (a .l .capacity) (a .l .pool) (a .s .now) (lastOf (x .path) .node .0) (lastOf (x .path) .index) _ _ _ _ (sym (ap enteredOf (c .before .before .before .before .before .child .given .1)) ∙ c .before .before .before .before .before .before .before .enter .ensures ∙ at) in
+    rw (c .look-at-end .ensures, c .before .count-node .ensures, c .before .before .row-of .ensures, c .before .before .before .is-bounded .ensures, set-limits (x .bounded) (x .rows) (x .path .depth) (c .before .before .before .before .before .child .given .0 .1 .0))
+    (both-in (a .l .capacity) (a .l .pool) (a .s .now) _ _ (x .path) (limits (x .bounded) (x .rows)) (x .firsts) (x .counts) (x .wrong .0) (x .inv) z has (c .before .before .before .before .before .before .before .before .before .if2 .left) _ (c .before .before .before .before .before .child .given .0 .1 .0) _ wt)
+
+both-requires-3 : tie.Need-both-requires-3 Inv-loop μ-loop
+both-requires-3 c κs = search needs
 
 returns-3 : tie.Need-returns-3 Inv-loop μ-loop
 returns-3 c =
-    let a = c .before .before .before .args in
-    sym (done (a .l .capacity) (a .l .pool) (a .s .now) (a .ends) _ (c .before .loop .path) (c .before .loop .nexts) (c .before .loop .firsts) (c .before .loop .counts) (c .before .loop .inv) (c .loop-test .left)) ∙ ap (λ (vs : List Visit). tally (a .l .capacity) (a .s .now) vs (a .start)) (rooted-left (a .ends) (a .l .capacity) (a .l .pool) (a .s .now) (a .root .0) (c .before .before .before .pre .1 .0))
+    let a = c .before .before .before .before .args in
+    let x = c .before .before .loop in
+    let z = c .before .loop-test .left in
+    let q = both-done (a .l .capacity) (a .l .pool) (a .s .now) _ _ (x .path) (limits (x .bounded) (x .rows)) (x .firsts) (x .counts) (x .wrong .0) (x .inv) z in
+    (c .both3 .ensures .0 ∙ q .0 ∙ ap (λ (vs : List Visit). tally (a .l .capacity) (a .s .now) vs (a .start)) (rooted-left false (a .l .capacity) (a .l .pool) (a .s .now) (a .root .0) (c .before .before .before .before .pre .1 .0)), c .both3 .ensures .1 ∙ q .1 ∙ ap (λ (vs : List Visit). withEnds (a .l .pool) (a .seen .0) (tally (a .l .capacity) (a .s .now) vs (a .start))) (rooted-left true (a .l .capacity) (a .l .pool) (a .s .now) (a .root .0) (c .before .before .before .before .pre .1 .0)))
 
 pub survey-below-spec : {M : Type 1} → statement M
 survey-below-spec =
@@ -235,24 +316,33 @@ survey-below-spec =
     loop-again
     mul-out
     array-read-out
+    both-requires
     returns
-    mul-next
-    array-copy-out-next
+    array-read-limit
+    mul-limit
+    array-read-limit-2
+    limit-requires
     enter-requires
     enum-known-n
+    both-requires-2
     returns-2
     enum-known-child
-    add-t40
+    add-rows
     mul-path
     element-set-from-path
-    mul-t42
+    mul-t46
     element-set-from-path-2
-    mul-nexts
-    array-set-from-nexts
+    is-bounded-requires
+    array-write-bounded
+    row-of-requires
+    mul-rows
+    array-write-rows
     mul-firsts
     array-write-firsts
     add-path
     count-node-requires
+    look-at-end-requires
     loop-less-2
     loop-again-2
+    both-requires-3
     returns-3)

@@ -1,102 +1,24 @@
 use borrow.Author.Needs.{needs}
-use Prim.Native.Nat.{_≤_}
-use mathlib.Core.Bool.{true, false}
-use mathlib.Core.Path.{_≡_, refl, sym, ap, _∙_}
-use native.Mathlib.Omega.{arith}
-use borrow.Author.Tests.{not-true, not-false, leb-true}
-use lib.Dec.{leb}
-use Rattle.model.specs.Words.{part, height, count, start, maxHeight}
-use Rattle.model.specs.Tree.{Open}
-use Rattle.model.specs.declared.node.RowPageIndexNodeHeader.{RowPageIndexNodeHeader}
-use Rattle.formed.proofs.Rooted.{empty-of}
-use Rattle.walk.specs.Turn.{passTest}
-use Rattle.walk.proofs.Tests.{pass-sound, pass-unsound}
-use Rattle.walk.proofs.Rest.{passes-fits}
-use Rattle.survey.specs.Tally.{counted, tally, noCounts}
-use Rattle.survey.specs.declared.Survey.the-variants.{Counted}
-use Rattle.survey.proofs.FromRoot.{from-empty, from-high, from-bad, from-good, root-valid}
+use mathlib.Core.Bool.{Bool}
+use mathlib.Core.Path.{_≡_, sym, ap, _∙_}
+use borrow.Author.Tests.{not-true, not-false}
+use Rattle.model.specs.Reading.{rootVisits}
+use Rattle.survey.specs.Tally.{noCounts, tally}
 use Rattle.survey.proofs.survey_tree.Statement.{statement}
 use Rattle.survey.proofs.survey_tree.Tie as tie
 
-is-empty-root-requires : tie.Need-is-empty-root-requires
-is-empty-root-requires c κs = search needs
-
-count-node-requires : tie.Need-count-node-requires
-count-node-requires c κs =
-    let a = c .before .before .before .args in
-    let z = empty-of (a .l .capacity) (a .s .now) (a .root .0) (sym (c .before .is-empty-root .ensures) ∙ c .if1 .taken) in
-    (c .before .before .before .pre .0, (c .before .before .before .pre .1, omega (arith, z .none)))
+survey-both-requires : tie.Need-survey-both-requires
+survey-both-requires c κs = search needs
 
 returns : tie.Need-returns
 returns c =
-    let a = c .before .before .before .before .args in
-    ap Counted (c .count-node .ensures) ∙ sym (from-empty (a .ends) (a .l .capacity) (a .l .pool) (a .s .now) (a .root .0) noCounts (sym (c .before .before .is-empty-root .ensures) ∙ c .before .if1 .taken))
-
-header-requires : tie.Need-header-requires
-header-requires c κs = search needs
-
-is-in-height-requires : tie.Need-is-in-height-requires
-is-in-height-requires c κs = search needs
+    let a = c .before .before .before .args in
+    c .before .survey-both .ensures .1 ∙ ap (λ (ends : Bool). tally (a .l .capacity) (a .s .now) (rootVisits ends (a .l .capacity) (a .l .pool) (a .s .now) (a .root .0)) noCounts) (sym (c .if1 .taken))
 
 returns-2 : tie.Need-returns-2
 returns-2 c =
-    let a = c .before .before .before .before .before .before .args in
-    let e = sym (c .before .before .before .before .is-empty-root .ensures) ∙ c .before .before .before .if1 .left in
-    let lo : leb (height (a .l .capacity) (a .s .now) (a .root .0)) maxHeight ≡ false = sym (ap (λ (h : RowPageIndexNodeHeader). leb (h .height) maxHeight) (c .before .before .header .ensures)) ∙ sym (c .before .is-in-height .ensures) ∙ not-true _ (c .if2 .taken) in
-    sym (from-high (a .ends) (a .l .capacity) (a .l .pool) (a .s .now) (a .root .0) noCounts e lo)
-
-pass-requires : tie.Need-pass-requires
-pass-requires c κs = search needs
-
-enum-told : tie.Need-enum-told
-enum-told c = search needs
-
-enum-known-first : tie.Need-enum-known-first
-enum-known-first c = search needs
-
-count-node-requires-2 : tie.Need-count-node-requires-2
-count-node-requires-2 c κs =
-    let a = c .before .before .before .before .before .before .before .before .before .before .args in
-    let s = pass-sound (a .ends) (a .l .capacity) (a .l .pool) (a .s .now) (a .root .0) (height (a .l .capacity) (a .s .now) (a .root .0)) (start (a .l .capacity) (a .s .now) (a .root .0)) Open _ (sym (c .before .before .before .pass .ensures ∙ ap (λ (h : RowPageIndexNodeHeader). passTest (a .ends) (a .l .capacity) (a .l .pool) (a .s .now) (a .root .0) (h .height) (h .«start_row_id» .0) Open) (c .before .before .before .before .before .before .header .ensures)) ∙ c .before .first .given .1) in
-    (c .before .before .before .before .before .before .before .before .before .before .pre .0, (c .before .before .before .before .before .before .before .before .before .before .pre .1, passes-fits (a .ends) (a .l .capacity) (a .s .now) (a .root .0) (height (a .l .capacity) (a .s .now) (a .root .0)) (start (a .l .capacity) (a .s .now) (a .root .0)) Open (s .0) .1))
-
-survey-below-requires : tie.Need-survey-below-requires
-survey-below-requires c κs =
-    let a = c .before .before .before .before .before .before .before .before .before .before .before .args in
-    let hi : leb (height (a .l .capacity) (a .s .now) (a .root .0)) maxHeight ≡ true = sym (ap (λ (h : RowPageIndexNodeHeader). leb (h .height) maxHeight) (c .before .before .before .before .before .before .before .header .ensures)) ∙ sym (c .before .before .before .before .before .before .is-in-height .ensures) ∙ not-false _ (c .before .before .before .before .before .if2 .left) in
-    let s = pass-sound (a .ends) (a .l .capacity) (a .l .pool) (a .s .now) (a .root .0) (height (a .l .capacity) (a .s .now) (a .root .0)) (start (a .l .capacity) (a .s .now) (a .root .0)) Open _ (sym (c .before .before .before .before .pass .ensures ∙ ap (λ (h : RowPageIndexNodeHeader). passTest (a .ends) (a .l .capacity) (a .l .pool) (a .s .now) (a .root .0) (h .height) (h .«start_row_id» .0) Open) (c .before .before .before .before .before .before .before .header .ensures)) ∙ c .before .before .first .given .1) in
-    (c .before .before .before .before .before .before .before .before .before .before .before .pre .0, (root-valid (a .ends) (a .l .capacity) (a .l .pool) (a .s .now) (a .root .0) (leb-true _ _ hi) (c .before .before .before .before .before .before .before .before .before .before .before .pre .1) (s .0), s .1))
-
-returns-3 : tie.Need-returns-3
-returns-3 c =
-    let a = c .before .before .before .before .before .before .before .before .before .args in
-    let e = sym (c .before .before .before .before .before .before .before .is-empty-root .ensures) ∙ c .before .before .before .before .before .before .if1 .left in
-    let hi : leb (height (a .l .capacity) (a .s .now) (a .root .0)) maxHeight ≡ true = sym (ap (λ (h : RowPageIndexNodeHeader). leb (h .height) maxHeight) (c .before .before .before .before .before .header .ensures)) ∙ sym (c .before .before .before .before .is-in-height .ensures) ∙ not-false _ (c .before .before .before .if2 .left) in
-    let s = pass-unsound (a .ends) (a .l .capacity) (a .l .pool) (a .s .now) (a .root .0) (height (a .l .capacity) (a .s .now) (a .root .0)) (start (a .l .capacity) (a .s .now) (a .root .0)) Open (sym (c .before .before .pass .ensures ∙ ap (λ (h : RowPageIndexNodeHeader). passTest (a .ends) (a .l .capacity) (a .l .pool) (a .s .now) (a .root .0) (h .height) (h .«start_row_id» .0) Open) (c .before .before .before .before .before .header .ensures)) ∙ c .enum-told .given .1) in
-    sym (from-bad (a .ends) (a .l .capacity) (a .l .pool) (a .s .now) (a .root .0) noCounts e hi (c .before .before .before .before .before .before .before .before .before .pre .1) s)
-
-returns-4 : tie.Need-returns-4
-returns-4 c =
-    let a = c .before .before .before .before .before .before .before .before .before .before .before .before .args in
-    let e = sym (c .before .before .before .before .before .before .before .before .before .before .is-empty-root .ensures) ∙ c .before .before .before .before .before .before .before .before .before .if1 .left in
-    let hi : leb (height (a .l .capacity) (a .s .now) (a .root .0)) maxHeight ≡ true = sym (ap (λ (h : RowPageIndexNodeHeader). leb (h .height) maxHeight) (c .before .before .before .before .before .before .before .before .header .ensures)) ∙ sym (c .before .before .before .before .before .before .before .is-in-height .ensures) ∙ not-false _ (c .before .before .before .before .before .before .if2 .left) in
-    let s = pass-sound (a .ends) (a .l .capacity) (a .l .pool) (a .s .now) (a .root .0) (height (a .l .capacity) (a .s .now) (a .root .0)) (start (a .l .capacity) (a .s .now) (a .root .0)) Open _ (sym (c .before .before .before .before .before .pass .ensures ∙ ap (λ (h : RowPageIndexNodeHeader). passTest (a .ends) (a .l .capacity) (a .l .pool) (a .s .now) (a .root .0) (h .height) (h .«start_row_id» .0) Open) (c .before .before .before .before .before .before .before .before .header .ensures)) ∙ c .before .before .before .first .given .1) in
-    c .survey-below .ensures ∙ rw (c .before .count-node2 .ensures) (sym (from-good (a .ends) (a .l .capacity) (a .l .pool) (a .s .now) (a .root .0) noCounts e hi (c .before .before .before .before .before .before .before .before .before .before .before .before .pre .1) (s .0)))
+    let a = c .before .before .before .args in
+    c .before .survey-both .ensures .0 ∙ ap (λ (ends : Bool). tally (a .l .capacity) (a .s .now) (rootVisits ends (a .l .capacity) (a .l .pool) (a .s .now) (a .root .0)) noCounts) (sym (c .if1 .left))
 
 pub survey-tree-spec : {M : Type 1} → statement M
-survey-tree-spec =
-    tie.close
-    (tie.spec
-    is-empty-root-requires
-    count-node-requires
-    returns
-    header-requires
-    is-in-height-requires
-    returns-2
-    pass-requires
-    enum-told
-    enum-known-first
-    count-node-requires-2
-    survey-below-requires
-    returns-3
-    returns-4)
+survey-tree-spec = tie.close (tie.spec survey-both-requires returns returns-2)
