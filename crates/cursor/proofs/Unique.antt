@@ -1,9 +1,9 @@
--- The contract of next decides its answer, the cursor and the list.
+-- The contracts of seek and next decide the answer, the cursor and the list.
 use mathlib.Core.List.{List}
 use Prim.Native.Nat.{ℕ}
 use mathlib.Core.Path.{_≡_, sym, _∙_}
 use Rattle.model.specs.Refusals.{nextLeaf}
-use Rattle.model.specs.LeafWalk.{nextLeafOf}
+use Rattle.model.specs.LeafWalk.{seek, nextLeafOf}
 use Rattle.model.specs.declared.answer.NextLeaf.{NextLeaf}
 use Rattle.model.specs.declared.node.PageEntry.{PageEntry}
 use Rattle.model.specs.declared.cursor.RowPageIndexMemCursor.{RowPageIndexMemCursor}
@@ -18,3 +18,6 @@ pub record Allowed (w : List ℕ) (c : RowPageIndexMemCursor) (list : List PageE
 pub next-unique : (w : List ℕ) (c : RowPageIndexMemCursor) (list : List PageEntry) (a b : NextLeaf) (d e : RowPageIndexMemCursor) (l m : List PageEntry)
     → Allowed w c list a d l → Allowed w c list b e m → (a ≡ b) × (d ≡ e) × (l ≡ m)
 next-unique w c list a b d e l m p q = (next-leaf-one a b (p .answer ∙ sym (q .answer)), p .cursor ∙ sym (q .cursor), p .list-is ∙ sym (q .list-is))
+
+pub seek-unique : (row : ℕ) (c d : RowPageIndexMemCursor) → c ≡ seek row → d ≡ seek row → c ≡ d
+seek-unique row c d p q = p ∙ sym q

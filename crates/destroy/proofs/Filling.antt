@@ -9,37 +9,6 @@ use borrow.Author.Tests.{eq-eqb, ne-eqb}
 use Rattle.model.specs.Words.{fill, height, count, child}
 use Rattle.destroy.specs.Pages.{pagesFrom, pagesAt}
 
--- Lists ---------------------------------------------------------------------------------------------------
-
-pub fill-append : (l : List ℕ) (a : ℕ) (xs ys : List ℕ) → fill l a (xs ++ ys) ≡ fill (fill l a xs) (a + length xs) ys
-unfolding fill
-fill-append l a [] ys = ap (λ (k : ℕ). fill l k ys) (let e : a ≡ a + 0 = omega arith in e)
-fill-append l a (x ∷ xs) ys =
-    fill-append (set l a x) (a + 1) xs ys ∙ ap (λ (k : ℕ). fill (fill (set l a x) (a + 1) xs) k ys) (let e : a + 1 + length xs ≡ a + suc (length xs) = omega arith in e)
-
-pub fill-length : (l : List ℕ) (a : ℕ) (xs : List ℕ) → length (fill l a xs) ≡ length l
-unfolding fill
-fill-length l a [] = refl
-fill-length l a (x ∷ xs) = fill-length (set l a x) (a + 1) xs ∙ length-set l a x
-
-set-at : {A : Type 0} (a : List A) (y : A) (l : List A) (x : A) → set (a ++ (y ∷ l)) (length a) x ≡ (a ++ (x ∷ [])) ++ l
-set-at [] y l x = refl
-set-at (b ∷ a) y l x = ap (λ m. b ∷ m) (set-at a y l x)
-
-fill-after : {A : Type 0} (a l xs : List A) → length xs ≤ length l → fill (a ++ l) (length a) xs ≡ a ++ (xs ++ drop (length xs) l)
-unfolding fill
-fill-after a l [] h = refl
-fill-after a [] (x ∷ xs) h = absurd (omega arith)
-fill-after a (y ∷ l) (x ∷ xs) h =
-    ap (λ m. fill m (length a + 1) xs) (set-at a y l x)
-    ∙ ap (λ (k : ℕ). fill ((a ++ (x ∷ [])) ++ l) k xs) (sym (length-append a (x ∷ [])))
-    ∙ fill-after (a ++ (x ∷ [])) l xs (omega arith)
-    ∙ append-assoc a (x ∷ []) (xs ++ drop (length xs) l)
-
--- the list afterwards: what went into it, and what stood behind
-pub fill-is : {A : Type 0} (l xs : List A) → length xs ≤ length l → fill l 0 xs ≡ xs ++ drop (length xs) l
-fill-is l xs h = fill-after [] l xs h
-
 -- The page ids of one node --------------------------------------------------------------------------------
 
 module _ (C : ℕ) (w : List ℕ) (n : ℕ) where

@@ -27,7 +27,7 @@ use Rattle.reclaim.proofs.Freeing.{Freeable, enough, sound-in, goes-in}
 use Rattle.reclaim.proofs.Root.{start-freeing}
 use Rattle.destroy.specs.Pages.{pagesAt, pagesOf}
 use Rattle.destroy.specs.Releasable.{Releasable}
-use Rattle.destroy.proofs.Filling.{fill-append, fill-length}
+use Rattle.listing.proofs.Filling.{fill-append, length-fill}
 use Rattle.destroy.proofs.Found.{rest-pages}
 
 pub ready : {C P : ℕ} {w : List ℕ} {n k : ℕ} → Releasable C P w n k → Ready C P w n k
@@ -115,7 +115,7 @@ module _ {C P : ℕ} {w L : List ℕ} {p : Path} {l : List ℕ} {a : ℕ} (t : T
             taking = record {
               walk = walk-out;
               told = t .told ∙ ap (fill l a) found ∙ fill-append l a (pagesAt C w node) (pagesOf C w (left false C P w (popped p)));
-              room = omega (arith, both, t .room, fill-length l a (pagesAt C w node));
+              room = omega (arith, both, t .room, length-fill l a (pagesAt C w node));
             };
             less = omega (arith, ap length (out .one));
           }

@@ -17,5 +17,9 @@ pub destroy-unique : (w : List ℕ) (pivot : ℕ) (pages : List ℕ) (a b : Dest
     → (a ≡ b) × (v ≡ u) × (l ≡ m)
 destroy-unique w pivot pages a b v u l m p q = (destroyed-one a b (p .answer ∙ sym (q .answer)), p .words ∙ sym (q .words), p .list ∙ sym (q .list))
 
-pub empty-unique : (w : List ℕ) (a b : Destroyed) → destroyed a ≡ destroyEmpty w .answer → destroyed b ≡ destroyEmpty w .answer → a ≡ b
-empty-unique w a b p q = destroyed-one a b (p ∙ sym q)
+pub record AllowedEmpty (w : List ℕ) (a : Destroyed) (v : List ℕ) : Type 0 where
+  pub answer : destroyed a ≡ destroyEmpty w .answer
+  pub words : v ≡ destroyEmpty w .words
+
+pub empty-unique : (w : List ℕ) (a b : Destroyed) (v u : List ℕ) → AllowedEmpty w a v → AllowedEmpty w b u → (a ≡ b) × (v ≡ u)
+empty-unique w a b v u p q = (destroyed-one a b (p .answer ∙ sym (q .answer)), p .words ∙ sym (q .words))

@@ -8,7 +8,7 @@ use Rattle.model.specs.Reading.{pageIds, rootEntries}
 use Rattle.model.specs.Paths.{lastOf}
 use Rattle.walk.specs.Left.{left}
 use Rattle.reclaim.proofs.Freeing.{last-top, inside, deep}
-use Rattle.destroy.proofs.Filling.{fill-length}
+use Rattle.listing.proofs.Filling.{length-fill}
 use Rattle.destroy.proofs.Taking.{Taking, start-taking, all-taken, leaf-room, takes-out, takes-in}
 use Rattle.destroy.proofs.copy_tree.Statement.{statement}
 use Rattle.destroy.proofs.copy_tree.Tie as tie
@@ -84,7 +84,7 @@ loop-less-2 c = takes-out (c .before .before .before .before .before .before .be
 loop-again-2 : tie.Need-loop-again-2 Inv-loop μ-loop
 loop-again-2 c =
     rw (c .before .before .copy-leaf .ensures .0, c .before .before .copy-leaf .ensures .1)
-    (takes-out (c .before .before .before .before .before .before .before .before .before .loop .inv .0) (c .before .before .before .before .before .before .before .before .loop-test .taken) (sym (c .before .before .before .before .before .has-child .ensures) ∙ c .before .before .before .before .if1 .left) .taking, fill-length (c .before .before .before .before .before .before .before .before .before .loop .pages) (c .before .before .before .before .before .before .before .before .before .loop .place) _ ∙ c .before .before .before .before .before .before .before .before .before .loop .inv .1)
+    (takes-out (c .before .before .before .before .before .before .before .before .before .loop .inv .0) (c .before .before .before .before .before .before .before .before .loop-test .taken) (sym (c .before .before .before .before .before .has-child .ensures) ∙ c .before .before .before .before .if1 .left) .taking, length-fill (c .before .before .before .before .before .before .before .before .before .loop .pages) (c .before .before .before .before .before .before .before .before .before .loop .place) _ ∙ c .before .before .before .before .before .before .before .before .before .loop .inv .1)
 
 same-length : tie.Need-same-length Inv-loop μ-loop
 same-length c = c .before .loop .inv .1
