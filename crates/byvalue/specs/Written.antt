@@ -4,8 +4,8 @@ use mathlib.Core.List.{List, [], _∷_}
 use mathlib.Core.Path.{_≡_}
 use lib.ListN.{length}
 use Rattle.model.specs.Words.{fill}
-use Rattle.model.specs.Refusals.{nextLeaf}
-use Rattle.model.specs.LeafWalk.{nextLeafOf}
+use Rattle.model.specs.Refusals.{Answer, nextLeaf}
+use Rattle.model.specs.LeafWalk.{pageEntry, nextLeafOf}
 use Rattle.model.specs.declared.node.PageEntry.{PageEntry}
 use Rattle.model.specs.declared.cursor.RowPageIndexMemCursor.{RowPageIndexMemCursor}
 use Rattle.byvalue.specs.declared.WordStep.{WordStep}
@@ -24,3 +24,21 @@ pub record WordSteps (w : List ℕ) (c : RowPageIndexMemCursor) (before after : 
   pub list : (l : List PageEntry) → length l ≡ length before / 2 → nextLeafOf w c l .list ≡ fill l 0 given
   pub few : length given ≤ length before / 2
   pub words : after ≡ fill before 0 (wordsOf given)
+
+-- words read as records, two to a record; an odd word is none
+unfoldable pub recordsIn : List ℕ → List PageEntry
+recordsIn [] = []
+recordsIn (r ∷ []) = []
+recordsIn (r ∷ x ∷ ws) = pageEntry r x ∷ recordsIn ws
+
+-- an answer, the cursor and the words afterwards
+pub record WordOutcome : Type 0 where
+  pub answer : Answer
+  pub cursor : RowPageIndexMemCursor
+  pub words : List ℕ
+
+-- next on these records, and its list written back
+abbrev pub nextWordsOf : List ℕ → RowPageIndexMemCursor → List ℕ → WordOutcome
+nextWordsOf w c before =
+    let o = nextLeafOf w c (recordsIn before) in
+    record { answer = o .answer; cursor = o .cursor; words = fill before 0 (wordsOf (o .list)) }
