@@ -60,9 +60,11 @@ pub words-are : (w : List ℕ) (c : RowPageIndexMemCursor) (before after : List 
     → (nextLeaf (r .answer) ≡ nextWordsOf w c before .answer) × (r .cursor ≡ nextWordsOf w c before .cursor) × (after ≡ nextWordsOf w c before .words)
 words-are w c before after r s =
     let l = recordsIn before in
-    let q = record-half before in
-    (s .answer l q, s .cursor l q,
-      s .words ∙ sym (filled before (s .given) (omega (arith, s .few, q))) ∙ ap (λ (x : List PageEntry). fill before 0 (wordsOf x)) (sym (s .list l q)))
+    let q = record-half before in (
+      s .answer l q,
+      s .cursor l q,
+      s .words ∙ sym (filled before (s .given) (omega (arith, s .few, q))) ∙ ap (λ (x : List PageEntry). fill before 0 (wordsOf x)) (sym (s .list l q)),
+    )
 
 pub words-unique : (w : List ℕ) (c : RowPageIndexMemCursor) (before v u : List ℕ) (a b : WordStep) → WordSteps w c before v a → WordSteps w c before u b
     → (a .answer ≡ b .answer) × (a .cursor ≡ b .cursor) × (v ≡ u)
