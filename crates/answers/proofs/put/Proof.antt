@@ -4,23 +4,18 @@ use lib.Seq.{set-out}
 use Rattle.answers.proofs.put.Statement.{statement}
 use Rattle.answers.proofs.put.Tie as tie
 
--- src/lib.rt:197:9
 mul-out : tie.Need-mul-out
 mul-out c = search needs
 
--- src/lib.rt:197:9
 slice-write-out : tie.Need-slice-write-out
 slice-write-out c = search needs
 
--- src/lib.rt:193:1
 same-length : tie.Need-same-length
 same-length c = search needs
 
--- src/lib.rt:193:1
 returns : tie.Need-returns
 returns c = search needs
 
--- src/lib.rt:193:1
 returns-2 : tie.Need-returns-2
 returns-2 c = sym (set-out _ _ _ (c .if1 .left))
 

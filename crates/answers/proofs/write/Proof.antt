@@ -4,31 +4,24 @@ use Rattle.model.specs.Words.{fill}
 use Rattle.answers.proofs.write.Statement.{statement}
 use Rattle.answers.proofs.write.Tie as tie
 
--- src/lib.rt:205:5
 put-requires : tie.Need-put-requires
 put-requires c κs = search needs
 
--- src/lib.rt:206:5
 put-requires-2 : tie.Need-put-requires-2
 put-requires-2 c κs = search needs
 
--- src/lib.rt:207:5
 put-requires-3 : tie.Need-put-requires-3
 put-requires-3 c κs = search needs
 
--- src/lib.rt:208:5
 put-requires-4 : tie.Need-put-requires-4
 put-requires-4 c κs = search needs
 
--- src/lib.rt:209:5
 put-requires-5 : tie.Need-put-requires-5
 put-requires-5 c κs = search needs
 
--- src/lib.rt:202:1
 same-length : tie.Need-same-length
 same-length c = search needs
 
--- src/lib.rt:202:1
 returns : tie.Need-returns
 unfolding fill
 returns c = rw (c .before .before .put5 .ensures, c .before .before .before .before .before .before .put4 .ensures, c .before .before .before .before .before .before .before .before .before .before .put3 .ensures, c .before .before .before .before .before .before .before .before .before .before .before .before .before .before .put2 .ensures, c .before .before .before .before .before .before .before .before .before .before .before .before .before .before .before .before .before .before .put .ensures) refl

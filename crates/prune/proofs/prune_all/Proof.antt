@@ -12,11 +12,9 @@ use Rattle.prune.proofs.Outcomes.{reset-full, reset-done}
 use Rattle.prune.proofs.prune_all.Statement.{statement}
 use Rattle.prune.proofs.prune_all.Tie as tie
 
--- src/lib.rt:46:16
 sub-room : tie.Need-sub-room
 sub-room c = search needs
 
--- src/lib.rt:47:9
 count-gone-requires : tie.Need-count-gone-requires
 count-gone-requires c κs =
     let a = c .before .before .before .before .before .args in
@@ -24,11 +22,9 @@ count-gone-requires c κs =
     let E = c .before .before .before .before .before .pre .1 .0 in
     (R .header, ((omega (arith, R .free, R .free-in, R .header .pool-high), E .climbed .low, E .climbed .long, edge-ahead (a .h .layout .capacity) (a .h .layout .pool) (a .s .now) (a .end .0) (a .h .root .0) (a .edge) (E .climbed)), found-spine (a .h .layout .capacity) (a .h .layout .pool) (a .s .now) (a .end .0) (a .h .root .0) (a .h .«free_count») (a .edge) R E))
 
--- src/lib.rt:49:9
 same-length : tie.Need-same-length
 same-length c = search needs
 
--- src/lib.rt:49:9
 returns : tie.Need-returns
 returns c =
     let a = c .before .before .before .before .before .before .before .args in
@@ -38,7 +34,6 @@ returns c =
     let e = reset-full (a .h .layout .capacity) (a .h .layout .pool) (a .s .now) (a .h .root .0) (a .end .0) (a .k) G l in
     (sym (ap (λ (o : Outcome). o .answer) e), sym (ap (λ (o : Outcome). o .words) e))
 
--- src/lib.rt:51:5
 write-reset-requires : tie.Need-write-reset-requires
 write-reset-requires c κs =
     let a = c .before .before .before .before .before .before .before .before .args in
@@ -47,11 +42,9 @@ write-reset-requires c κs =
     let l : freeCount (a .s .now) + length G ≤ a .h .layout .pool = omega (arith, c .before .if1 .left, c .before .before .count-gone .ensures, R .free, R .free-in) in
     resettable (a .h .layout .capacity) (a .h .layout .pool) (a .s .now) (a .end .0) (a .h .root .0) (a .h .«free_count») (a .edge) R (c .before .before .before .before .before .before .before .before .pre .1 .0) l
 
--- src/lib.rt:38:1
 same-length-2 : tie.Need-same-length-2
 same-length-2 c = search needs
 
--- src/lib.rt:38:1
 returns-2 : tie.Need-returns-2
 returns-2 c =
     let a = c .before .before .before .before .before .before .before .before .before .before .before .args in

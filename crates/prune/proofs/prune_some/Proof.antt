@@ -14,7 +14,6 @@ use Rattle.prune.proofs.Outcomes.{cut-unsound, cut-full, cut-done}
 use Rattle.prune.proofs.prune_some.Statement.{statement}
 use Rattle.prune.proofs.prune_some.Tie as tie
 
--- src/lib.rt:69:9
 find-copies-requires : tie.Need-find-copies-requires
 find-copies-requires c κs =
     let a = c .before .before .before .before .args in
@@ -22,15 +21,12 @@ find-copies-requires c κs =
     let E = c .before .before .before .before .pre .1 .0 in
     (R .header, ((E .climbed .low, E .climbed .long, edge-ahead (a .h .layout .capacity) (a .h .layout .pool) (a .s .now) (a .end .0) (a .h .root .0) (a .edge) (E .climbed)), (R .inside, R .low, R .good)))
 
--- src/lib.rt:72:27
 enum-known-tested : tie.Need-enum-known-tested
 enum-known-tested c = search needs
 
--- src/lib.rt:73:13
 same-length : tie.Need-same-length
 same-length c = search needs
 
--- src/lib.rt:73:13
 returns : tie.Need-returns
 returns c =
     let a = c .before .before .before .before .before .before .before .before .args in
@@ -44,11 +40,9 @@ returns c =
 enum-told : tie.Need-enum-told
 enum-told c = search needs
 
--- src/lib.rt:78:16
 sub-room : tie.Need-sub-room
 sub-room c = search needs
 
--- src/lib.rt:79:9
 count-gone-requires : tie.Need-count-gone-requires
 count-gone-requires c κs =
     let a = c .before .before .before .before .before .before .before .before .before .before .args in
@@ -56,11 +50,9 @@ count-gone-requires c κs =
     let E = c .before .before .before .before .before .before .before .before .before .before .pre .1 .0 in
     (R .header, ((omega (arith, R .free, R .free-in, R .header .pool-high), E .climbed .low, E .climbed .long, edge-ahead (a .h .layout .capacity) (a .h .layout .pool) (a .s .now) (a .end .0) (a .h .root .0) (a .edge) (E .climbed)), found-spine (a .h .layout .capacity) (a .h .layout .pool) (a .s .now) (a .end .0) (a .h .root .0) (a .h .«free_count») (a .edge) R E))
 
--- src/lib.rt:81:9
 same-length-2 : tie.Need-same-length-2
 same-length-2 c = search needs
 
--- src/lib.rt:81:9
 returns-2 : tie.Need-returns-2
 returns-2 c =
     let a = c .before .before .before .before .before .before .before .before .before .before .before .before .args in
@@ -71,15 +63,12 @@ returns-2 c =
     let e = ap (cutTo (a .h .layout .capacity) (a .h .layout .pool) (a .s .now) (a .h .root .0) (a .end .0) (a .k) (trimsOf (a .edge)) G) q ∙ cut-full (a .h .layout .capacity) (a .h .layout .pool) (a .s .now) (a .h .root .0) (a .end .0) (a .k) G (trimsOf (a .edge)) _ _ (omega (arith, c .if1 .taken, c .before .count-gone .ensures, R .free, R .free-in)) in
     (sym (ap (λ (o : Outcome). o .answer) e), sym (ap (λ (o : Outcome). o .words) e))
 
--- src/lib.rt:83:17
 add-freed : tie.Need-add-freed
 add-freed c = search needs
 
--- src/lib.rt:85:9
 same-length-3 : tie.Need-same-length-3
 same-length-3 c = search needs
 
--- src/lib.rt:85:9
 returns-3 : tie.Need-returns-3
 returns-3 c =
     let a = c .before .before .before .before .before .before .before .before .before .before .before .before .before .args in
@@ -90,7 +79,6 @@ returns-3 c =
     let e = ap (cutTo (a .h .layout .capacity) (a .h .layout .pool) (a .s .now) (a .h .root .0) (a .end .0) (a .k) (trimsOf (a .edge)) G) q ∙ cut-full (a .h .layout .capacity) (a .h .layout .pool) (a .s .now) (a .h .root .0) (a .end .0) (a .k) G (trimsOf (a .edge)) _ _ (omega (arith, c .if2 .taken, c .before .before .count-gone .ensures, R .free, R .free-in)) in
     (sym (ap (λ (o : Outcome). o .answer) e), sym (ap (λ (o : Outcome). o .words) e))
 
--- src/lib.rt:88:5
 write-edge-requires : tie.Need-write-edge-requires
 write-edge-requires c κs =
     let a = c .before .before .before .before .before .before .before .before .before .before .before .before .before .before .before .args in
@@ -100,11 +88,9 @@ write-edge-requires c κs =
     let q = found-sound (a .h .layout .capacity) (a .h .layout .pool) (a .s .now) (a .end .0) (a .h .root .0) (a .h .«free_count») (a .edge) R E (c .before .before .before .before .before .before .before .before .before .before .before .before .before .before .before .pre .1 .1) _ (c .before .before .before .before .before .before .before .before .before .before .find-copies .ensures .0) (c .before .before .before .before .before .before .before .before .enum-told .given .1) in
     writable (a .h .layout .capacity) (a .h .layout .pool) (a .s .now) (a .end .0) (a .h .root .0) (a .h .«free_count») (a .edge) R E (c .before .before .before .before .before .before .before .before .before .before .before .before .before .before .before .pre .1 .1) _ _ (c .before .before .before .before .before .before .before .before .before .before .find-copies .ensures .1 .0) (c .before .before .before .before .before .before .before .before .before .before .find-copies .ensures .1 .1) q (omega (arith, c .before .before .if2 .left, c .before .before .before .before .count-gone .ensures, R .free, R .free-in))
 
--- src/lib.rt:60:1
 same-length-4 : tie.Need-same-length-4
 same-length-4 c = search needs
 
--- src/lib.rt:60:1
 returns-4 : tie.Need-returns-4
 returns-4 c =
     let a = c .before .before .before .before .before .before .before .before .before .before .before .before .before .before .before .before .before .before .args in

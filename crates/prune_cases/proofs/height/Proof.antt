@@ -5,27 +5,21 @@ use Rattle.node.proofs.Opened.{is-open, opens-fits}
 use Rattle.prune_cases.proofs.height.Statement.{statement}
 use Rattle.prune_cases.proofs.height.Tie as tie
 
--- src/main.rt:71:11
 open-requires : tie.Need-open-requires
 open-requires c κs = search needs
 
--- src/main.rt:72:31
 enum-told : tie.Need-enum-told
 enum-told c = search needs
 
--- src/main.rt:73:22
 enum-known-h : tie.Need-enum-known-h
 enum-known-h c = search needs
 
--- src/main.rt:73:28
 part-requires : tie.Need-part-requires
 part-requires c κs = let q = opens-fits _ _ (is-open _ _ (sym (c .before .before .before .«open» .ensures) ∙ c .before .h .given .1)) in (q .0, (q .1, omega arith))
 
--- src/main.rt:70:1
 returns : tie.Need-returns
 returns c = search needs
 
--- src/main.rt:70:1
 returns-2 : tie.Need-returns-2
 returns-2 c = search needs
 

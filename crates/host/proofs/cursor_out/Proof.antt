@@ -1,0 +1,25 @@
+use borrow.Author.Needs.{needs}
+use mathlib.Core.Path.{refl}
+use Rattle.model.specs.Words.{fill}
+use Rattle.host.proofs.cursor_out.Statement.{statement}
+use Rattle.host.proofs.cursor_out.Tie as tie
+
+flag-requires : tie.Need-flag-requires
+flag-requires c κs = search needs
+
+put-requires : tie.Need-put-requires
+put-requires c κs = search needs
+
+put-requires-2 : tie.Need-put-requires-2
+put-requires-2 c κs = search needs
+
+same-length : tie.Need-same-length
+same-length c = search needs
+
+returns : tie.Need-returns
+unfolding fill
+returns c = rw (c .before .before .put2 .ensures, c .before .before .before .before .before .before .put .ensures, c .before .before .before .before .before .before .before .before .flag .ensures) refl
+
+pub cursor-out-spec : {M : Type 1} → statement M
+cursor-out-spec =
+    tie.close (tie.spec flag-requires put-requires put-requires-2 same-length returns)

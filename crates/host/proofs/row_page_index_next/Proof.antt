@@ -1,0 +1,59 @@
+use borrow.Author.Needs.{needs}
+use Prim.Native.Nat.{ℕ}
+use mathlib.Core.List.{List}
+use mathlib.Core.Path.{_≡_, sym, ap, _∙_}
+use lib.ListN.{getD}
+use Rattle.model.specs.Words.{fill}
+use Rattle.answers.specs.Numbers.{answerWords}
+use Rattle.model.specs.declared.cursor.RowPageIndexMemCursor.{RowPageIndexMemCursor}
+use Rattle.byvalue.specs.Written.{nextWordsOf, WordOutcome}
+use Rattle.byvalue.proofs.Equation.{words-are}
+use Rattle.host.specs.Cursors.{cursorIn, cursorWords}
+use Rattle.host.proofs.row_page_index_next.Statement.{statement}
+use Rattle.host.proofs.row_page_index_next.Tie as tie
+
+cursor-in-requires : tie.Need-cursor-in-requires
+cursor-in-requires c κs = search needs
+
+next-words-requires : tie.Need-next-words-requires
+next-words-requires c κs = search needs
+
+cursor-out-requires : tie.Need-cursor-out-requires
+cursor-out-requires c κs = search needs
+
+next-leaf-numbers-requires : tie.Need-next-leaf-numbers-requires
+next-leaf-numbers-requires c κs = search needs
+
+write-requires : tie.Need-write-requires
+write-requires c κs = search needs
+
+same-length : tie.Need-same-length
+same-length c = search needs
+
+same-length-2 : tie.Need-same-length-2
+same-length-2 c = search needs
+
+same-length-3 : tie.Need-same-length-3
+same-length-3 c = search needs
+
+returns : tie.Need-returns
+returns c =
+    let a = c .before .before .before .before .before .before .before .before .before .before .before .before .before .before .before .before .before .before .before .before .args in
+    let s = words-are (a .words .now) _ (a .records .now) _ _ (c .before .before .before .before .before .before .before .before .before .before .before .before .next-words .ensures) in
+    let e : nextWordsOf (a .words .now) _ (a .records .now) ≡ nextWordsOf (a .words .now) (cursorIn (a .cursor .now)) (a .records .now) = ap (λ (c : RowPageIndexMemCursor). nextWordsOf (a .words .now) c (a .records .now)) (c .before .before .before .before .before .before .before .before .before .before .before .before .before .before .cursor-in .ensures) in
+    let q = c .before .before .before .before .next-leaf-numbers .ensures ∙ ap answerWords (s .0 ∙ ap (λ (o : WordOutcome). o .answer) e) in
+    (c .before .before .before .before .before .before .before .cursor-out .ensures ∙ ap (λ (c : RowPageIndexMemCursor). fill (a .cursor .now) 0 (cursorWords c)) (s .1 ∙ ap (λ (o : WordOutcome). o .cursor) e), (s .2 ∙ ap (λ (o : WordOutcome). o .words) e, (c .before .before .write .ensures ∙ ap (fill _ 0) q, ap (λ (l : List ℕ). getD l 0 0) q)))
+
+pub row-page-index-next-spec : {M : Type 1} → statement M
+row-page-index-next-spec =
+    tie.close
+    (tie.spec
+    cursor-in-requires
+    next-words-requires
+    cursor-out-requires
+    next-leaf-numbers-requires
+    write-requires
+    same-length
+    same-length-2
+    same-length-3
+    returns)
