@@ -9,44 +9,72 @@ mod store;
 use std::hint::black_box;
 use std::time::Instant;
 
-/// The functions of crates/bench_host. A slice is a pointer and then a length.
+/// The C functions of crates/host. A slice is a pointer and then a length; an answer is five words: 0, how many values, the
+/// values; or a refusal's number.
 mod rattle {
     unsafe extern "C" {
-        fn bench_create(words: *mut u64, len: usize, capacity: u64, nodes: u64) -> u64;
-        fn bench_append(words: *mut u64, len: usize, count: u64, page: u64) -> u64;
-        fn bench_find(words: *const u64, len: usize, row: u64) -> u64;
-        fn bench_check(words: *const u64, len: usize) -> u64;
-        fn bench_next(words: *const u64, len: usize, row: u64, list: *mut u64, list_len: usize) -> u64;
-        fn bench_prune(words: *mut u64, len: usize, start: u64, end: u64, ids: *const u64, ids_len: usize) -> u64;
-        fn bench_destroy(words: *mut u64, len: usize, pages: *mut u64, pages_len: usize) -> u64;
+        fn row_page_index_create(w: *mut u64, len: usize, c: u64, p: u64, start: u64, a: *mut u64, n: usize) -> u64;
+        fn row_page_index_append(w: *mut u64, len: usize, count: u64, page: u64, a: *mut u64, n: usize) -> u64;
+        fn row_page_index_find(w: *const u64, len: usize, row: u64, a: *mut u64, n: usize) -> u64;
+        fn row_page_index_check(w: *const u64, len: usize, a: *mut u64, n: usize) -> u64;
+        fn row_page_index_next(
+            w: *const u64, len: usize, cursor: *mut u64, two: usize, list: *mut u64, list_len: usize, a: *mut u64, n: usize,
+        ) -> u64;
+        fn row_page_index_prune(
+            w: *mut u64, len: usize, start: u64, end: u64, ids: *const u64, ids_len: usize, a: *mut u64, n: usize,
+        ) -> u64;
+        fn row_page_index_destroy(
+            w: *mut u64, len: usize, pivot: u64, pages: *mut u64, pages_len: usize, a: *mut u64, n: usize,
+        ) -> u64;
     }
 
-    pub fn create(w: &mut [u64], capacity: u64, nodes: u64) -> u64 {
-        unsafe { bench_create(w.as_mut_ptr(), w.len(), capacity, nodes) }
+    pub fn create(w: &mut [u64], capacity: u64, nodes: u64) {
+        let mut a = [0; 5];
+        assert_eq!(unsafe { row_page_index_create(w.as_mut_ptr(), w.len(), capacity, nodes, 0, a.as_mut_ptr(), 5) }, 0);
     }
 
+    /// The end of the range.
     pub fn append(w: &mut [u64], count: u64, page: u64) -> u64 {
-        unsafe { bench_append(w.as_mut_ptr(), w.len(), count, page) }
+        let mut a = [0; 5];
+        unsafe { row_page_index_append(w.as_mut_ptr(), w.len(), count, page, a.as_mut_ptr(), 5) };
+        a[3]
     }
 
+    /// The page.
     pub fn find(w: &[u64], row: u64) -> u64 {
-        unsafe { bench_find(w.as_ptr(), w.len(), row) }
+        let mut a = [0; 5];
+        unsafe { row_page_index_find(w.as_ptr(), w.len(), row, a.as_mut_ptr(), 5) };
+        a[2]
     }
 
+    /// The nodes of the tree.
     pub fn check(w: &[u64]) -> u64 {
-        unsafe { bench_check(w.as_ptr(), w.len()) }
+        let mut a = [0; 5];
+        unsafe { row_page_index_check(w.as_ptr(), w.len(), a.as_mut_ptr(), 5) };
+        a[3]
     }
 
+    /// The end of the leaf.
     pub fn next(w: &[u64], row: u64, list: &mut [u64]) -> u64 {
-        unsafe { bench_next(w.as_ptr(), w.len(), row, list.as_mut_ptr(), list.len()) }
+        let (mut cursor, mut a) = ([row, 0], [0; 5]);
+        unsafe {
+            row_page_index_next(w.as_ptr(), w.len(), cursor.as_mut_ptr(), 2, list.as_mut_ptr(), list.len(), a.as_mut_ptr(), 5)
+        };
+        a[3]
     }
 
+    /// The nodes freed.
     pub fn prune(w: &mut [u64], start: u64, end: u64, ids: &[u64]) -> u64 {
-        unsafe { bench_prune(w.as_mut_ptr(), w.len(), start, end, ids.as_ptr(), ids.len()) }
+        let mut a = [0; 5];
+        unsafe { row_page_index_prune(w.as_mut_ptr(), w.len(), start, end, ids.as_ptr(), ids.len(), a.as_mut_ptr(), 5) };
+        a[3]
     }
 
+    /// The nodes freed.
     pub fn destroy(w: &mut [u64], pages: &mut [u64]) -> u64 {
-        unsafe { bench_destroy(w.as_mut_ptr(), w.len(), pages.as_mut_ptr(), pages.len()) }
+        let mut a = [0; 5];
+        unsafe { row_page_index_destroy(w.as_mut_ptr(), w.len(), 0, pages.as_mut_ptr(), pages.len(), a.as_mut_ptr(), 5) };
+        a[2]
     }
 }
 
@@ -84,7 +112,7 @@ fn main() {
     let mut others = vec![0u64; n as usize];
     let ids: Vec<u64> = (1..=n).collect();
     for _ in 0..rounds {
-        assert_eq!(rattle::create(&mut words, c, nodes), nodes);
+        rattle::create(&mut words, c, nodes);
         let t = Instant::now();
         for k in 0..n {
             black_box(rattle::append(black_box(&mut words), 10, k + 1));

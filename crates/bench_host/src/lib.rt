@@ -1,21 +1,10 @@
-// What the benchmark calls: the proved functions, behind C functions that any words may be handed to. No part of the index.
+// What the benchmark of the node test and the walk calls, behind C functions that any words may be handed to. No part of the
+// index; the calls themselves are measured through crates/host.
 
-use byvalue;
-use create;
-use destroy;
-use find;
-use full_check;
-use insert;
-use model::answer::Checked;
-use model::answer::Created;
-use model::answer::Destroyed;
-use model::answer::Inserted;
-use model::answer::NextLeaf;
-use model::answer::Pruned;
-use model::answer::RowLocation;
-use model::cursor::RowPageIndexMemCursor;
+ghost use mathlib.Core.Path.{_≡_};
+ghost use Rattle.node.specs.Test.{limitOf};
+ghost use Rattle.bench_host.specs.Numbers.{limitTo, openNumber, surveyOf, testOf};
 use model::id::NodeNo;
-use model::id::PageID;
 use model::id::RowID;
 use node::header;
 use node::header::Opened;
@@ -30,11 +19,11 @@ const REFUSED: u64 = u64::MAX;
 
 const UNSOUND: u64 = u64::MAX - 1;
 
-const NOT_FOUND: u64 = u64::MAX - 2;
-
 // The header test alone: the number of nodes.
 #[no_mangle]
-pub extern "C" fn bench_open(words: &[u64]) -> u64 {
+pub extern "C" fn bench_open(words: &[u64]) -> u64
+    ensures { λ r. ⌜ r ≡ openNumber (now (words .entry)) ⌝ }
+{
     match header::open(words) {
         Opened::Refused(_) => REFUSED,
         Opened::Open(h) => h.layout.pool,
@@ -42,7 +31,9 @@ pub extern "C" fn bench_open(words: &[u64]) -> u64 {
 }
 
 // A number as a limit.
-fn limit(bounded: u64, next: u64) -> Limit {
+fn limit(bounded: u64, next: u64) -> Limit
+    ensures { λ r. ⌜ limitOf r ≡ limitTo bounded next ⌝ }
+{
     if bounded == 0 {
         return Limit::Open;
     }
@@ -58,7 +49,9 @@ pub extern "C" fn bench_test_node(
     row: u64,
     bounded: u64,
     next: u64,
-) -> u64 {
+) -> u64
+    ensures { λ r. ⌜ r ≡ testOf (now (words .entry)) node height row (limitTo bounded next) ⌝ }
+{
     match header::open(words) {
         Opened::Refused(_) => REFUSED,
         Opened::Open(h) => {
@@ -77,87 +70,14 @@ pub extern "C" fn bench_test_node(
 
 // The header test, and a reading of the whole tree: its nodes.
 #[no_mangle]
-pub extern "C" fn bench_survey(words: &[u64], ends: u64) -> u64 {
+pub extern "C" fn bench_survey(words: &[u64], ends: u64) -> u64
+    ensures { λ r. ⌜ r ≡ surveyOf (now (words .entry)) ends ⌝ }
+{
     match header::open(words) {
         Opened::Refused(_) => REFUSED,
         Opened::Open(h) => match survey::survey_tree(h.layout, words, ends != 0, h.root) {
             Survey::Unsound(_) => REFUSED,
             Survey::Counted(k) => k.nodes,
         },
-    }
-}
-
-// The full check: the nodes of the tree.
-#[no_mangle]
-pub extern "C" fn bench_check(words: &[u64]) -> u64 {
-    match full_check::full_check(words) {
-        Checked::Refused(_) => REFUSED,
-        Checked::WellFormed {
-            entries: _,
-            nodes,
-            free: _,
-        } => nodes,
-    }
-}
-
-// A new store that begins at row 0: its nodes.
-#[no_mangle]
-pub extern "C" fn bench_create(words: &mut [u64], capacity: u64, nodes: u64) -> u64 {
-    match create::new(words, capacity, nodes, RowID(0)) {
-        Created::Refused(_) => REFUSED,
-        Created::Done => nodes,
-    }
-}
-
-// An append: the end of the range.
-#[no_mangle]
-pub extern "C" fn bench_append(words: &mut [u64], count: u64, page: u64) -> u64 {
-    match insert::insert_row_page(words, count, PageID(page)) {
-        Inserted::Refused(_) => REFUSED,
-        Inserted::Done(range) => range.end_row_id.0,
-    }
-}
-
-// A lookup: the page.
-#[no_mangle]
-pub extern "C" fn bench_find(words: &[u64], row: u64) -> u64 {
-    match find::try_find_row(words, RowID(row)) {
-        RowLocation::RowPage(page) => page.0,
-        RowLocation::NotFound => NOT_FOUND,
-        RowLocation::Refused(_) => REFUSED,
-    }
-}
-
-// One step of a leaf walk from a row, the records as words: the leaf's end.
-#[no_mangle]
-pub extern "C" fn bench_next(words: &[u64], row: u64, list: &mut [u64]) -> u64 {
-    let cursor = RowPageIndexMemCursor {
-        row_id: RowID(row),
-        done: false,
-    };
-    let step = byvalue::next_words(words, cursor, list);
-    let answer = step.answer;
-    match answer {
-        NextLeaf::Refused(_) => REFUSED,
-        NextLeaf::Done => NOT_FOUND,
-        NextLeaf::Found(leaf) => leaf.end_row_id.0,
-    }
-}
-
-// A release: the nodes freed.
-#[no_mangle]
-pub extern "C" fn bench_destroy(words: &mut [u64], pages: &mut [u64]) -> u64 {
-    match destroy::destroy(words, RowID(0), pages) {
-        Destroyed::Refused(_) => REFUSED,
-        Destroyed::Done { nodes, pages: _ } => nodes,
-    }
-}
-
-// A prune: the nodes freed.
-#[no_mangle]
-pub extern "C" fn bench_prune(words: &mut [u64], start: u64, end: u64, ids: &[u64]) -> u64 {
-    match prune::prune_checkpoint_prefix(words, RowID(start), RowID(end), ids) {
-        Pruned::Refused(_) => REFUSED,
-        Pruned::Done(p) => p.reclaimed_nodes,
     }
 }

@@ -1,0 +1,49 @@
+-- What the benchmark's functions answer, as numbers.
+use Prim.Native.Nat.{ℕ, _-_}
+use mathlib.Core.List.{List}
+use mathlib.Core.Bool.{not}
+use lib.Dec.{leb, eqb}
+use Rattle.model.specs.Words.{pick, NONE}
+use Rattle.model.specs.Tree.{Limit, Open, Below}
+use Rattle.model.specs.Reading.{rootVisits}
+use Rattle.node.specs.Layout.{opened}
+use Rattle.node.specs.Test.{nodeTest}
+use Rattle.node.specs.declared.header.StoreHeader.{StoreHeader}
+use Rattle.node.specs.declared.header.Opened as H
+use Rattle.node.specs.declared.header.Opened.the-variants as O
+use Rattle.node.specs.declared.test.NodeTest.{NodeTest}
+use Rattle.node.specs.declared.test.NodeTest.the-variants.{Unsound, Sound}
+use Rattle.survey.specs.Tally.{noCounts, tally}
+use Rattle.survey.specs.declared.Survey.{Survey}
+use Rattle.survey.specs.declared.Survey.the-variants as S
+
+-- the header is damaged, the store is closed, a node number is out of range, or the tree is unsound
+abbrev pub refused : ℕ
+refused = NONE
+
+abbrev pub whenOpened : H.Opened → (StoreHeader → ℕ) → ℕ
+whenOpened (O.Refused r) f = refused
+whenOpened (O.Open h) f = f h
+
+abbrev pub testNumber : NodeTest → ℕ
+testNumber Unsound = NONE - 1
+testNumber (Sound first) = first
+
+abbrev pub surveyNumber : Survey → ℕ
+surveyNumber (S.Unsound n) = refused
+surveyNumber (S.Counted k) = k .nodes
+
+abbrev pub limitTo : ℕ → ℕ → Limit
+limitTo bounded row = pick (eqb bounded 0) Open (Below row)
+
+-- "The header test alone"
+abbrev pub openNumber : List ℕ → ℕ
+openNumber w = whenOpened (opened w) (λ h. h .layout .pool)
+
+abbrev pub testOf : List ℕ → ℕ → ℕ → ℕ → Limit → ℕ
+testOf w n height row b =
+    whenOpened (opened w) (λ h. pick (leb (h .layout .pool) n) refused (testNumber (nodeTest (h .layout .capacity) (h .layout .pool) w n height row b)))
+
+abbrev pub surveyOf : List ℕ → ℕ → ℕ
+surveyOf w ends =
+    whenOpened (opened w) (λ h. surveyNumber (tally (h .layout .capacity) w (rootVisits (not (eqb ends 0)) (h .layout .capacity) (h .layout .pool) w (h .root .0)) noCounts))
