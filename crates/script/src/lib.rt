@@ -1,0 +1,1 @@
+// The script: records in, a listing out.
