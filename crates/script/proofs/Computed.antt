@@ -13,8 +13,8 @@ use Rattle.model.specs.Release.{firstLow, releasedWords, destroy}
 use Rattle.model.specs.Tree.{pairsFrom, rising, firstRow, lastRow, meets, endSound, sound, emptyRoot, rootSound, level, next, last, overPairs}
 use Rattle.model.specs.Words.{base, part, put, emptied, added, copyFrom, copied, freed, freeAll, fill}
 use Rattle.text.specs.Lines.{digitsOf, decimal, numbers, line}
-use Rattle.script.specs.Records.{little, wordsIn, callOf, asked, whole}
-use Rattle.script.specs.Script.{answerLine, findLine, leafLines, walkLines, createLength, ifAccepted, perform, first, listingFrom, listingOf, listing}
+use Rattle.records.specs.Records.{little, wordsIn, callOf, asked, whole, first}
+use Rattle.script.specs.Script.{answerLine, findLine, leafLines, walkLines, createLength, ifAccepted, perform, listingFrom, listingOf, listing}
 use Rattle.script.specs.Example.{bytes, wordBytes, Case, cases}
 
 pub computed : map (λ (c : Case). listing (c .0)) cases ≡ map (λ (c : Case). c .1) cases

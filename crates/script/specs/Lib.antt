@@ -1,4 +1,3 @@
 pub mod Names
-pub mod Records
 pub mod Script
 pub mod Example

@@ -16,7 +16,7 @@ use Rattle.model.specs.declared.node.PageEntry.{PageEntry}
 use Rattle.model.specs.declared.cursor.RowPageIndexMemCursor.{RowPageIndexMemCursor}
 use Rattle.text.specs.Lines.{line}
 use Rattle.script.specs.Names.{createName, appendName, pageName, noneName, pruneName, leafName, endName, releaseName, noName, freeName, badRecordName}
-use Rattle.script.specs.Records.{Call, Create, Append, Find, Prune, Walk, Release, Bad, asked, bodyLength, whole}
+use Rattle.records.specs.Records.{Call, Create, Append, Find, Prune, Walk, Release, Bad, bodyLength, first}
 
 -- Lines: "`create`; `append START END TAKEN`; …; `no NUMBER DETAIL`" --------------------------------------
 
@@ -120,10 +120,6 @@ perform m Bad = record { lines = line badRecordName []; memory = m; goes = false
 -- "last `free` and word 4"
 abbrev pub freeLine : Memory → List ℕ
 freeLine m = line freeName (freeCount (m .words) ∷ [])
-
--- the record that these bytes begin with
-unfoldable pub first : List ℕ → Call
-first bs = pick (whole bs) (asked (take (bodyLength bs) (drop 4 bs))) Bad
 
 -- The listing of these bytes, of which there are at most k. A record has six bytes or more.
 unfoldable pub listingFrom : ℕ → Memory → List ℕ → List ℕ

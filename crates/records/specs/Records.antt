@@ -51,3 +51,7 @@ bodyLength bs = little (take 4 bs)
 
 unfoldable pub whole : List ℕ → Bool
 whole bs = leb 4 (length bs) && leb (bodyLength bs) 4096 && leb (4 + bodyLength bs) (length bs)
+
+-- the record that these bytes begin with
+unfoldable pub first : List ℕ → Call
+first bs = pick (whole bs) (asked (take (bodyLength bs) (drop 4 bs))) Bad
