@@ -15,29 +15,11 @@ use Rattle.model.specs.Release.{Released, destroy}
 use Rattle.model.specs.declared.node.PageEntry.{PageEntry}
 use Rattle.model.specs.declared.cursor.RowPageIndexMemCursor.{RowPageIndexMemCursor}
 use Rattle.text.specs.Lines.{line}
-use Rattle.script.specs.Names.{createName, appendName, pageName, noneName, pruneName, leafName, endName, releaseName, noName, freeName, badRecordName}
+use Rattle.lines.specs.Answers.{answerLine, findLine, leafLines}
+use Rattle.lines.specs.Names.{createName, appendName, pruneName, releaseName, freeName, badRecordName}
 use Rattle.records.specs.Records.{Call, Create, Append, Find, Prune, Walk, Release, Bad, bodyLength, first}
 
--- Lines: "`create`; `append START END TAKEN`; …; `no NUMBER DETAIL`" --------------------------------------
-
-abbrev pub refusalLine : ℕ → ℕ → List ℕ
-refusalLine number detail = line noName (number ∷ detail ∷ [])
-
-unfoldable pub answerLine : List ℕ → Answer → List ℕ
-answerLine name (result vs) = line name vs
-answerLine name (refused number detail) = refusalLine number detail
-
--- "`page ID` or `none`"
-unfoldable pub findLine : Answer → List ℕ
-findLine (result []) = line noneName []
-findLine (result (x ∷ xs)) = line pageName (x ∷ xs)
-findLine (refused number detail) = refusalLine number detail
-
--- "`leaf START END COUNT` each, then `end` (or the line of the refusal that stops the walk"
-unfoldable pub leafLines : Answer → List ℕ → List ℕ
-leafLines (result []) more = line endName []
-leafLines (result (x ∷ xs)) more = line leafName (x ∷ xs) ++ more
-leafLines (refused number detail) more = refusalLine number detail
+-- Walks -------------------------------------------------------------------------------------------------
 
 -- "the lists lent here always suffice": an entry takes two of the 4,096 words
 abbrev pub lentRecords : List PageEntry

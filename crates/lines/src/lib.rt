@@ -1,0 +1,164 @@
+// The lines of each call's answer, put into lent bytes.
+
+ghost use mathlib.Core.Path.{_≡_};
+ghost use mathlib.Core.List.{[]};
+ghost use Rattle.model.specs.Refusals.{created, destroyed, inserted, location, nextLeaf, pruned, refusal, refused};
+ghost use Rattle.text.specs.Lines.{Puts};
+ghost use Rattle.lines.specs.Names.{appendName, createName, pruneName, releaseName};
+ghost use Rattle.lines.specs.Answers.{answerLine, findLine, leafLines, refusalLine};
+use model::answer::Created;
+use model::answer::Destroyed;
+use model::answer::Inserted;
+use model::answer::NextLeaf;
+use model::answer::Pruned;
+use model::answer::Refusal;
+use model::answer::RowLocation;
+
+// A refusal's number and its detail.
+pub struct Numbered {
+    pub number: u64,
+    pub detail: u64,
+}
+
+fn number_of(r: Refusal) -> Numbered
+    ensures { λ n. ⌜ refusal r ≡ refused (n .number) (n .detail) ⌝ }
+{
+    match r {
+        Refusal::BadParameters => Numbered {
+            number: 1,
+            detail: 0,
+        },
+        Refusal::Unsound(node) => Numbered {
+            number: 2,
+            detail: node.0,
+        },
+        Refusal::Closed => Numbered {
+            number: 3,
+            detail: 0,
+        },
+        Refusal::RowLimit => Numbered {
+            number: 4,
+            detail: 0,
+        },
+        Refusal::NoRoom(needed) => Numbered {
+            number: 5,
+            detail: needed,
+        },
+        Refusal::HeightLimit => Numbered {
+            number: 6,
+            detail: 0,
+        },
+        Refusal::NoPrefix => Numbered {
+            number: 7,
+            detail: 0,
+        },
+        Refusal::StartDiffers(start) => Numbered {
+            number: 8,
+            detail: start.0,
+        },
+        Refusal::PageDiffers(place) => Numbered {
+            number: 9,
+            detail: place,
+        },
+        Refusal::EndDiffers(place) => Numbered {
+            number: 10,
+            detail: place,
+        },
+        Refusal::ListTooLong(held) => Numbered {
+            number: 11,
+            detail: held,
+        },
+        Refusal::RowBelowPivot(row) => Numbered {
+            number: 12,
+            detail: row.0,
+        },
+        Refusal::ListTooShort(wanted) => Numbered {
+            number: 13,
+            detail: wanted,
+        },
+    }
+}
+
+fn put_refusal(out: &mut [u8], at: usize, n: Numbered) -> usize
+    ensures { λ p. ⌜ Puts (now (out .entry)) at (refusalLine (n .number) (n .detail)) (now (out .exit)) p ⌝ }
+{
+    text::put_line2(out, at, b"no", n.number, n.detail)
+}
+
+pub fn put_created(out: &mut [u8], at: usize, a: Created) -> usize
+    ensures { λ p. ⌜ Puts (now (out .entry)) at (answerLine createName (created a)) (now (out .exit)) p ⌝ }
+{
+    match a {
+        Created::Done => text::put_line(out, at, b"create"),
+        Created::Refused(r) => put_refusal(out, at, number_of(r)),
+    }
+}
+
+pub fn put_inserted(out: &mut [u8], at: usize, a: Inserted) -> usize
+    ensures { λ p. ⌜ Puts (now (out .entry)) at (answerLine appendName (inserted a)) (now (out .exit)) p ⌝ }
+{
+    match a {
+        Inserted::Done(i) => text::put_line3(
+            out,
+            at,
+            b"append",
+            i.start_row_id.0,
+            i.end_row_id.0,
+            i.taken_nodes,
+        ),
+        Inserted::Refused(r) => put_refusal(out, at, number_of(r)),
+    }
+}
+
+pub fn put_location(out: &mut [u8], at: usize, a: RowLocation) -> usize
+    ensures { λ p. ⌜ Puts (now (out .entry)) at (findLine (location a)) (now (out .exit)) p ⌝ }
+{
+    match a {
+        RowLocation::RowPage(page) => text::put_line1(out, at, b"page", page.0),
+        RowLocation::NotFound => text::put_line(out, at, b"none"),
+        RowLocation::Refused(r) => put_refusal(out, at, number_of(r)),
+    }
+}
+
+pub fn put_pruned(out: &mut [u8], at: usize, a: Pruned) -> usize
+    ensures { λ p. ⌜ Puts (now (out .entry)) at (answerLine pruneName (pruned a)) (now (out .exit)) p ⌝ }
+{
+    match a {
+        Pruned::Done(d) => text::put_line3(
+            out,
+            at,
+            b"prune",
+            d.removed_entries,
+            d.reclaimed_nodes,
+            d.collapsed_levels,
+        ),
+        Pruned::Refused(r) => put_refusal(out, at, number_of(r)),
+    }
+}
+
+// The line of one step of a walk.
+pub fn put_next(out: &mut [u8], at: usize, a: NextLeaf) -> usize
+    ensures { λ p. ⌜ Puts (now (out .entry)) at (leafLines (nextLeaf a) []) (now (out .exit)) p ⌝ }
+{
+    match a {
+        NextLeaf::Found(leaf) => text::put_line3(
+            out,
+            at,
+            b"leaf",
+            leaf.start_row_id.0,
+            leaf.end_row_id.0,
+            leaf.count,
+        ),
+        NextLeaf::Done => text::put_line(out, at, b"end"),
+        NextLeaf::Refused(r) => put_refusal(out, at, number_of(r)),
+    }
+}
+
+pub fn put_destroyed(out: &mut [u8], at: usize, a: Destroyed) -> usize
+    ensures { λ p. ⌜ Puts (now (out .entry)) at (answerLine releaseName (destroyed a)) (now (out .exit)) p ⌝ }
+{
+    match a {
+        Destroyed::Done { nodes, pages } => text::put_line2(out, at, b"release", nodes, pages),
+        Destroyed::Refused(r) => put_refusal(out, at, number_of(r)),
+    }
+}
