@@ -38,7 +38,7 @@ pub record Whole (bs : List ℕ) (n : ℕ) : Type 0 where
   pub fits : 4 + n ≤ length bs
   pub whole : whole bs ≡ true
 
-within : (bs : List ℕ) → whole bs ≡ true → (bodyLength bs ≤ 4096) × (4 + bodyLength bs ≤ length bs)
+pub within : (bs : List ℕ) → whole bs ≡ true → (bodyLength bs ≤ 4096) × (4 + bodyLength bs ≤ length bs)
 unfolding whole
 within bs t =
     let a = leb 4 (length bs) in

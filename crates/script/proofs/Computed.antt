@@ -15,7 +15,8 @@ use Rattle.model.specs.Words.{base, part, put, emptied, added, copyFrom, copied
 use Rattle.text.specs.Lines.{digitsOf, decimal, numbers, line}
 use Rattle.records.specs.Records.{little, wordsIn, callOf, asked, whole, first}
 use Rattle.lines.specs.Answers.{answerLine, findLine, leafLines}
-use Rattle.script.specs.Script.{walkLines, createLength, ifAccepted, perform, listingFrom, listingOf, listing}
+use Rattle.calls.specs.Calls.{walkLines, createLength, ifAccepted, perform}
+use Rattle.script.specs.Script.{listingFrom, listingOf, listing}
 use Rattle.script.specs.Example.{bytes, wordBytes, Case, cases}
 
 pub computed : map (λ (c : Case). listing (c .0)) cases ≡ map (λ (c : Case). c .1) cases
