@@ -143,12 +143,12 @@ module _ (C P : ℕ) (w : List ℕ) (e : ℕ) where
   at-leaf n = refl
 
   module _ (h n c : ℕ) (z : count C w n ≡ suc c) (k : kept (suc h) e (level C w (suc (suc h)) n) (start C w n) ≡ 1) where
-    one : copiesFrom C P (suc h) e (level C w (suc (suc h)) n) (start C w n)
+    pub one : copiesFrom C P (suc h) e (level C w (suc (suc h)) n) (start C w n)
         ≡ pick (ltb (child C w n c) P) (pick (sound C h (level C w (suc h) (child C w n c)) (row C w n c) Open) (before (child C w n c) (copiesFrom C P h e (level C w (suc h) (child C w n c)) (row C w n c))) (unsound (child C w n c))) (unsound n)
     unfolding copiesFrom level
     one = rw (k, z, last-pair C w (level C w (suc h)) n _ (copies []) 0 c, zero-add c)
 
-first-pair : (C : ℕ) (w : List ℕ) (n c r : ℕ) (z : ℕ → Bool) → T (rows z r (pairsFrom C w (λ (x : ℕ). x) n 0 c)) → (1 ≤ c) × (row C w n 0 ≡ r)
+pub first-pair : (C : ℕ) (w : List ℕ) (n c r : ℕ) (z : ℕ → Bool) → T (rows z r (pairsFrom C w (λ (x : ℕ). x) n 0 c)) → (1 ≤ c) × (row C w n 0 ≡ r)
 unfolding rows pairsFrom
 first-pair C w n zero r z t = absurd t
 first-pair C w n (suc c) r z t = (omega arith, eqb→eq (row C w n 0) r (and-l (eqb (row C w n 0) r) (rises z (row C w n 0) (pairsFrom C w (λ (x : ℕ). x) n (0 + 1) c)) t))

@@ -81,14 +81,8 @@ pub fn new(s: &mut [u64], capacity: u64, nodes: u64, start: RowID) -> Created
         capacity,
         pool: nodes,
     };
-    let root = RowPageIndexNodeHeader {
-        height: 0,
-        count: 0,
-        start_row_id: start,
-        end_row_id: RowID(RowPageIndexNodeHeader::NONE),
-    };
     write_header(s, capacity, nodes);
-    write::put_header(l, s, NodeNo(0), root);
+    write::empty_node(l, s, NodeNo(0), start);
     link_nodes(l, s);
     Created::Done
 }

@@ -13,12 +13,8 @@ use Rattle.model.specs.declared.id.NodeNo.{NodeNo}
 use Rattle.model.proofs.Words.{put-length, header-at}
 use Rattle.model.proofs.Writes.{put-keeps, copied-keeps}
 use Rattle.pool.specs.Write.{listed}
+use Rattle.pool.proofs.Listed.{length-listed}
 use Rattle.grow.specs.Inside.{Inside, numberAt}
-
-length-listed : (l : List NodeNo) (i k : ℕ) → length (listed l i k) ≡ k
-unfolding listed
-length-listed l i zero = refl
-length-listed l i (suc k) = ap suc (length-listed l (i + 1) k)
 
 listed-turn : (l : List NodeNo) (i n : ℕ) → i < n → listed l i (n - i) ≡ numberAt l i ∷ listed l (i + 1) (n - (i + 1))
 unfolding listed

@@ -3,7 +3,7 @@
 ghost use mathlib.Core.Path.{_≡_};
 ghost use Prim.Native.Nat.{_+_, _*_, _-_, _≤_, _<_};
 ghost use lib.ListN.{length, set};
-ghost use Rattle.model.specs.Words.{added, copied, count, nodeSize, put};
+ghost use Rattle.model.specs.Words.{added, copied, count, emptied, nodeSize, put};
 ghost use Rattle.model.specs.Prune.{moved};
 ghost use Rattle.node.specs.Layout.{Fits};
 ghost use Rattle.pool.specs.Write.{putEntry, putHeader};
@@ -41,6 +41,25 @@ pub fn put_header(l: Layout, s: &mut [u64], n: NodeNo, h: RowPageIndexNodeHeader
     put(l, s, n, 1, h.count);
     put(l, s, n, 2, h.start_row_id.0);
     put(l, s, n, 3, h.end_row_id.0);
+}
+
+// Node n becomes an empty root leaf that starts at this row.
+pub fn empty_node(l: Layout, s: &mut [u64], n: NodeNo, start: RowID)
+    requires { ⌜ Fits l (now s) ⌝ }
+    requires { ⌜ n .0 < l .pool ⌝ }
+    ensures { λ _. ⌜ now (s .exit) ≡ emptied (l .capacity) (now (s .entry)) (n .0) (start .0) ⌝ }
+{
+    put_header(
+        l,
+        s,
+        n,
+        RowPageIndexNodeHeader {
+            height: 0,
+            count: 0,
+            start_row_id: start,
+            end_row_id: RowID(RowPageIndexNodeHeader::NONE),
+        },
+    );
 }
 
 // Pair i of node n.

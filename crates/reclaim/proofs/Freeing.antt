@@ -93,7 +93,7 @@ module _ {C P : ℕ} {W : List ℕ} {k j : ℕ} {w : List ℕ} {p : Path} (f : F
         }
 
     module _ (e : hasChild C w (lastOf p .node .0) (lastOf p .index) ≡ true) where
-      abbrev kid : ℕ
+      abbrev pub kid : ℕ
       kid = child C w (lastOf p .node .0) (lastOf p .index)
 
       pub inside : lastOf p .index < count C w (lastOf p .node .0)

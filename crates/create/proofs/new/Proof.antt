@@ -2,9 +2,9 @@ use borrow.Author.Needs.{needs}
 use mathlib.Core.Path.{sym, ap, _∙_}
 use native.Mathlib.Omega.{arith}
 use borrow.Author.Tests.{not-true, not-false}
-use Rattle.model.specs.Words.{emptied}
 use Rattle.model.specs.Refusals.{Outcome}
-use Rattle.model.proofs.Words.{put-header}
+use Rattle.model.proofs.Words.{header-at}
+use Rattle.model.proofs.Writes.{emptied-length}
 use Rattle.create.proofs.Stores.{sized-header, create-unsized, create-late, create-done, written}
 use Rattle.create.proofs.new.Statement.{statement}
 use Rattle.create.proofs.new.Tie as tie
@@ -36,8 +36,8 @@ write-header-requires c κs =
     let hd = sized-header (a .capacity) (a .nodes) (a .s .now) (sym (c .before .before .before .before .fits2 .ensures) ∙ not-false _ (c .before .before .before .if1 .left)) in
     (omega (arith, hd .long), hd .pool-low)
 
-put-header-requires : tie.Need-put-header-requires
-put-header-requires c κs =
+empty-node-requires : tie.Need-empty-node-requires
+empty-node-requires c κs =
     let a = c .before .before .before .before .before .before .before .before .before .before .before .args in
     let hd = sized-header (a .capacity) (a .nodes) (a .s .now) (sym (c .before .before .before .before .before .before .before .before .fits2 .ensures) ∙ not-false _ (c .before .before .before .before .before .before .before .if1 .left)) in
     (rw (c .before .before .before .write-header .ensures) (written (a .capacity) (a .nodes) (a .s .now) hd), omega (arith, hd .pool-low))
@@ -46,17 +46,16 @@ link-nodes-requires : tie.Need-link-nodes-requires
 link-nodes-requires c κs =
     let a = c .before .before .before .before .before .before .before .before .before .before .before .before .before .before .before .args in
     let hd = sized-header (a .capacity) (a .nodes) (a .s .now) (sym (c .before .before .before .before .before .before .before .before .before .before .before .before .fits2 .ensures) ∙ not-false _ (c .before .before .before .before .before .before .before .before .before .before .before .if1 .left)) in
-    rw (c .before .before .before .put-header .ensures, c .before .before .before .before .before .before .before .write-header .ensures) (put-header _ _ _ (put-header _ _ _ (put-header _ _ _ (put-header _ _ _ (written (a .capacity) (a .nodes) (a .s .now) hd) _ _ _) _ _ _) _ _ _) _ _ _)
+    rw (c .before .before .before .empty-node .ensures, c .before .before .before .before .before .before .before .write-header .ensures) (header-at _ _ _ _ (written (a .capacity) (a .nodes) (a .s .now) hd) (emptied-length _ _ _ _))
 
 same-length-3 : tie.Need-same-length-3
 same-length-3 c = search needs
 
 returns-3 : tie.Need-returns-3
-unfolding emptied
 returns-3 c =
     let a = c .before .before .before .before .before .before .before .before .before .before .before .before .before .before .before .before .before .before .args in
     let q = create-done (a .capacity) (a .nodes) (a .s .now) (a .start .0) (sym (c .before .before .before .before .before .before .before .before .before .before .before .before .before .before .before .fits2 .ensures) ∙ not-false _ (c .before .before .before .before .before .before .before .before .before .before .before .before .before .before .if1 .left)) (c .before .before .before .before .before .before .before .before .before .before .before .before .if2 .left) in
-    (sym (ap (λ (o : Outcome). o .answer) q), c .before .before .link-nodes .ensures ∙ rw (c .before .before .before .before .before .before .put-header .ensures, c .before .before .before .before .before .before .before .before .before .before .write-header .ensures) (sym (ap (λ (o : Outcome). o .words) q)))
+    (sym (ap (λ (o : Outcome). o .answer) q), c .before .before .link-nodes .ensures ∙ rw (c .before .before .before .before .before .before .empty-node .ensures, c .before .before .before .before .before .before .before .before .before .before .write-header .ensures) (sym (ap (λ (o : Outcome). o .words) q)))
 
 pub new-spec : {M : Type 1} → statement M
 new-spec =
@@ -68,7 +67,7 @@ new-spec =
     same-length-2
     returns-2
     write-header-requires
-    put-header-requires
+    empty-node-requires
     link-nodes-requires
     same-length-3
     returns-3)

@@ -1,0 +1,69 @@
+use borrow.Author.Needs.{needs}
+use mathlib.Core.Path.{sym, ap, _∙_}
+use native.Mathlib.Omega.{arith}
+use Rattle.model.specs.Refusals.{Outcome}
+use Rattle.edge.proofs.Climbs.{node-in}
+use Rattle.prune.proofs.Edges.{whole-is, stays-is}
+use Rattle.prune.proofs.prune_edge.Statement.{statement}
+use Rattle.prune.proofs.prune_edge.Tie as tie
+
+-- src/lib.rt:105:14
+sub-at : tie.Need-sub-at
+sub-at c = search needs
+
+-- src/lib.rt:106:16
+mul-last : tie.Need-mul-last
+mul-last c = search needs
+
+-- src/lib.rt:106:16
+element-copy-out-last : tie.Need-element-copy-out-last
+element-copy-out-last c = search needs
+
+-- src/lib.rt:109:9
+part-requires : tie.Need-part-requires
+part-requires c κs = let a = c .before .before .before .before .args in (c .before .before .before .before .pre .0 .header, (node-in (a .h .layout .capacity) (a .h .layout .pool) (a .s .now) (a .end .0) (a .h .root .0) (a .t5) (c .before .before .before .before .pre .1 .climbed), omega arith))
+
+-- src/lib.rt:111:9
+prune-all-requires : tie.Need-prune-all-requires
+prune-all-requires c κs = (c .before .before .before .before .before .before .before .pre .0, (c .before .before .before .before .before .before .before .pre .1, rw (c .before .before .part .ensures) at (c .before .if1 .taken)))
+
+-- src/lib.rt:111:9
+same-length : tie.Need-same-length
+same-length c = search needs
+
+-- src/lib.rt:111:9
+returns : tie.Need-returns
+returns c =
+    let a = c .before .before .before .before .before .before .before .before .before .before .args in
+    let e = whole-is (a .h .layout .capacity) (a .h .layout .pool) (a .s .now) (a .end .0) (a .h .root .0) (a .h .«free_count») (a .t5) (c .before .before .before .before .before .before .before .before .before .before .pre .0) (c .before .before .before .before .before .before .before .before .before .before .pre .1) (rw (c .before .before .before .before .before .part .ensures) at (c .before .before .before .before .if1 .taken)) (a .k) in
+    (c .before .before .prune-all .ensures .0 ∙ sym (ap (λ (o : Outcome). o .answer) e), c .before .before .prune-all .ensures .1 ∙ sym (ap (λ (o : Outcome). o .words) e))
+
+-- src/lib.rt:113:5
+prune-some-requires : tie.Need-prune-some-requires
+prune-some-requires c κs = (c .before .before .before .before .before .before .before .pre .0, (c .before .before .before .before .before .before .before .pre .1, rw (c .before .before .part .ensures) at (c .before .if1 .left)))
+
+-- src/lib.rt:99:1
+same-length-2 : tie.Need-same-length-2
+same-length-2 c = search needs
+
+-- src/lib.rt:99:1
+returns-2 : tie.Need-returns-2
+returns-2 c =
+    let a = c .before .before .before .before .before .before .before .before .before .before .args in
+    let e = stays-is (a .h .layout .capacity) (a .h .layout .pool) (a .s .now) (a .end .0) (a .h .root .0) (a .h .«free_count») (a .t5) (c .before .before .before .before .before .before .before .before .before .before .pre .0) (c .before .before .before .before .before .before .before .before .before .before .pre .1) (rw (c .before .before .before .before .before .part .ensures) at (c .before .before .before .before .if1 .left)) (a .k) in
+    (c .before .before .prune-some .ensures .0 ∙ sym (ap (λ (o : Outcome). o .answer) e), c .before .before .prune-some .ensures .1 ∙ sym (ap (λ (o : Outcome). o .words) e))
+
+pub prune-edge-spec : {M : Type 1} → statement M
+prune-edge-spec =
+    tie.close
+    (tie.spec
+    sub-at
+    mul-last
+    element-copy-out-last
+    part-requires
+    prune-all-requires
+    same-length
+    returns
+    prune-some-requires
+    same-length-2
+    returns-2)

@@ -1,0 +1,65 @@
+use borrow.Author.Needs.{needs}
+use mathlib.Core.Path.{sym, ap, _∙_}
+use native.Mathlib.Omega.{arith}
+use borrow.Author.Tests.{not-true, not-false}
+use Rattle.model.specs.Refusals.{Outcome, refused}
+use Rattle.prune.proofs.Deciding.{empty-other, empty-start}
+use Rattle.prune.proofs.prune_open.Statement.{statement}
+use Rattle.prune.proofs.prune_open.Tie as tie
+
+-- src/lib.rt:168:9
+is-empty-root-requires : tie.Need-is-empty-root-requires
+is-empty-root-requires c κs = (c .before .before .before .pre .0 .header, c .before .before .before .pre .0 .inside)
+
+-- src/lib.rt:170:9
+prune-filled-requires : tie.Need-prune-filled-requires
+prune-filled-requires c κs = (c .before .before .before .before .before .before .pre .0, (c .before .before .before .before .before .before .pre .1, sym (c .before .before .is-empty-root .ensures) ∙ not-true _ (c .before .if1 .taken)))
+
+-- src/lib.rt:170:9
+same-length : tie.Need-same-length
+same-length c = search needs
+
+-- src/lib.rt:170:9
+returns : tie.Need-returns
+returns c = search needs
+
+-- src/lib.rt:172:9
+part-requires : tie.Need-part-requires
+part-requires c κs = (c .before .before .before .before .before .before .pre .0 .header, (c .before .before .before .before .before .before .pre .0 .inside, omega arith))
+
+-- src/lib.rt:174:9
+same-length-2 : tie.Need-same-length-2
+same-length-2 c = search needs
+
+-- src/lib.rt:174:9
+returns-2 : tie.Need-returns-2
+returns-2 c =
+    let a = c .before .before .before .before .before .before .before .before .before .args in
+    let q = c .before .before .part .ensures in
+    let e = empty-other (a .h .layout .capacity) (a .h .layout .pool) (a .s .now) (a .h .root .0) (a .start .0) (a .end .0) (a .ids .now) (sym (c .before .before .before .before .before .is-empty-root .ensures) ∙ not-false _ (c .before .before .before .before .if1 .left)) (rw q at (c .if2 .taken)) in
+    (ap (refused 8) q ∙ sym (ap (λ (o : Outcome). o .answer) e), sym (ap (λ (o : Outcome). o .words) e))
+
+-- src/lib.rt:162:1
+same-length-3 : tie.Need-same-length-3
+same-length-3 c = search needs
+
+-- src/lib.rt:162:1
+returns-3 : tie.Need-returns-3
+returns-3 c =
+    let a = c .before .before .before .before .before .before .before .before .before .args in
+    let e = empty-start (a .h .layout .capacity) (a .h .layout .pool) (a .s .now) (a .h .root .0) (a .start .0) (a .end .0) (a .ids .now) (sym (c .before .before .before .before .before .is-empty-root .ensures) ∙ not-false _ (c .before .before .before .before .if1 .left)) (rw (c .before .before .part .ensures) at (c .if2 .left)) in
+    (sym (ap (λ (o : Outcome). o .answer) e), sym (ap (λ (o : Outcome). o .words) e))
+
+pub prune-open-spec : {M : Type 1} → statement M
+prune-open-spec =
+    tie.close
+    (tie.spec
+    is-empty-root-requires
+    prune-filled-requires
+    same-length
+    returns
+    part-requires
+    same-length-2
+    returns-2
+    same-length-3
+    returns-3)
