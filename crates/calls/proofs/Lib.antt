@@ -1,3 +1,4 @@
 pub mod Performing
 pub mod Refused
 pub mod Walking
+pub mod Bound

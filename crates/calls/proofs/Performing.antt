@@ -85,7 +85,7 @@ module _ (w out : List ℕ) (u at : ℕ) (a : Answer) (v out₁ : List ℕ) (pla
   releases q e f p = record { words = rw f; used = refl; goes = refl; puts = rw e at p }
 
 module _ (w out : List ℕ) (u at : ℕ) (out₁ : List ℕ) where
-  pub walks : (place q : ℕ) → Puts out at (walkLines (take u w) u (seek q)) out₁ place → Does (perform (memory w u) (Walk q)) out at w out₁ (record { used = u; at = place; goes = true })
+  pub walks : (place q : ℕ) → Puts out at (walkLines (take u w) (length (take u w) + 1) (seek q)) out₁ place → Does (perform (memory w u) (Walk q)) out at w out₁ (record { used = u; at = place; goes = true })
   unfolding perform
   walks place q p = record { words = refl; used = refl; goes = refl; puts = p }
 

@@ -23,7 +23,7 @@ leaf-more (result []) more e = let z : _≡_ {A = ℕ} 0 1 = cc in absurd (omega
 leaf-more (result (x ∷ xs)) more e = rw append-nil
 leaf-more (refused n d) more e = let z : _≡_ {A = ℕ} 0 1 = cc in absurd (omega arith)
 
-leaf-last : (a : Answer) (more : List ℕ) → givesLeaf a ≡ false → leafLines a more ≡ leafLines a []
+pub leaf-last : (a : Answer) (more : List ℕ) → givesLeaf a ≡ false → leafLines a more ≡ leafLines a []
 unfolding leafLines givesLeaf
 leaf-last (result []) more e = refl
 leaf-last (result (x ∷ xs)) more e = let z : _≡_ {A = ℕ} 0 1 = cc in absurd (omega arith)

@@ -1,5 +1,5 @@
 -- 01, "Script program": the memory of a script, and what each record does with it.
-use Prim.Native.Nat.{ℕ, zero, suc}
+use Prim.Native.Nat.{ℕ, zero, suc, _+_}
 use mathlib.Core.List.{List, [], _∷_, _++_}
 use mathlib.Core.Bool.{Bool, true, false, _&&_}
 use lib.ListN.{length, take, drop, replicate}
@@ -28,8 +28,9 @@ lentRecords = replicate 2048 (pageEntry 0 0)
 abbrev pub lentPages : List ℕ
 lentPages = replicate 2048 0
 
--- The leaves from a cursor on, at most k of them. A walk has as many as the store has words, and that is never used up:
--- each leaf begins where the one before it ends, so none comes twice, and a node takes eight words or more.
+-- The leaves from a cursor on, in at most k steps. Steps beyond the words of the store are never used, whatever the words:
+-- each leaf but the last ends above the row that the walk came with, so none comes twice, and a node takes eight words
+-- or more. Any larger k gives the same lines (`enough` in proofs/Bound).
 unfoldable pub walkLines : List ℕ → ℕ → RowPageIndexMemCursor → List ℕ
 walkLines w zero c = []
 walkLines w (suc k) c =
@@ -90,7 +91,7 @@ perform m (Find q) = reading m (findLine (tryFindRow (take (m .used) (m .words))
 perform m (Prune s e ids) =
     let o = pruneCheckpointPrefix (take (m .used) (m .words)) s e ids in
     leaving m (answerLine pruneName (o .answer)) (o .words)
-perform m (Walk q) = reading m (walkLines (take (m .used) (m .words)) (m .used) (seek q))
+perform m (Walk q) = let w = take (m .used) (m .words) in reading m (walkLines w (length w + 1) (seek q))
 perform m (Release v) =
     let o = destroy (take (m .used) (m .words)) v lentPages in
     leaving m (answerLine releaseName (o .answer)) (o .words)

@@ -3,7 +3,7 @@
 ghost use mathlib.Core.Path.{_≡_};
 ghost use mathlib.Core.Bool.{false};
 ghost use mathlib.Core.List.{[]};
-ghost use Prim.Native.Nat.{_≤_};
+ghost use Prim.Native.Nat.{_+_, _≤_};
 ghost use lib.ListN.{length};
 ghost use Rattle.model.specs.LeafWalk as W;
 ghost use Rattle.model.specs.Refusals.{created, nextLeaf};
@@ -173,21 +173,18 @@ fn walk_on(
     at: usize,
 ) -> usize
     requires { ⌜ length (now list) ≡ 4096 ⌝ }
-    ensures { λ r. ⌜ Puts (now (out .entry)) at (walkLines (now (s .entry)) (length (now (s .entry))) cursor) (now (out .exit)) r ⌝ }
+    ensures { λ r. ⌜ Puts (now (out .entry)) at (walkLines (now (s .entry)) (length (now (s .entry)) + 1) cursor) (now (out .exit)) r ⌝ }
 {
     let mut c = cursor;
     let mut place = at;
-    let mut left = s.len();
-    while 0 < left {
+    loop {
         let t = walk_once(s, c, list, out, place);
         place = t.at;
         if !t.goes {
             return place;
         }
         c = t.cursor;
-        left -= 1;
     }
-    place
 }
 
 pub fn walk_step(s: &[u64], used: usize, row: u64, out: &mut [u8], at: usize) -> Progress

@@ -26,8 +26,7 @@ same-length c = search needs
 returns : tie.Need-returns
 returns c =
     let x = c .before .before .before .before .before .before .before .before .before .before .before .args in
-    let n = length-take-le (x .used) (x .s .now) (c .before .before .before .before .before .before .before .before .before .before .before .pre) in
-    walks (x .s .now) (x .out .now) (x .used) _ _ _ (x .row) (rw (n, c .before .before .before .before .before .before .before .seek-value .ensures) at (c .before .before .before .walk-on .ensures))
+    walks (x .s .now) (x .out .now) (x .used) _ _ _ (x .row) (rw (c .before .before .before .before .before .before .before .seek-value .ensures) at (c .before .before .before .walk-on .ensures))
 
 pub walk-step-spec : {M : Type 1} → statement M
 walk-step-spec =
