@@ -15,74 +15,32 @@ use model::answer::Refusal;
 use model::answer::RowLocation;
 
 // A refusal's number and its detail.
-pub struct Numbered {
-    pub number: u64,
-    pub detail: u64,
-}
+pub struct Numbered(pub u64, pub u64);
 
 fn number_of(r: Refusal) -> Numbered
-    ensures { λ n. ⌜ refusal r ≡ refused (n .number) (n .detail) ⌝ }
+    ensures { λ n. ⌜ refusal r ≡ refused (n .0) (n .1) ⌝ }
 {
     match r {
-        Refusal::BadParameters => Numbered {
-            number: 1,
-            detail: 0,
-        },
-        Refusal::Unsound(node) => Numbered {
-            number: 2,
-            detail: node.0,
-        },
-        Refusal::Closed => Numbered {
-            number: 3,
-            detail: 0,
-        },
-        Refusal::RowLimit => Numbered {
-            number: 4,
-            detail: 0,
-        },
-        Refusal::NoRoom(needed) => Numbered {
-            number: 5,
-            detail: needed,
-        },
-        Refusal::HeightLimit => Numbered {
-            number: 6,
-            detail: 0,
-        },
-        Refusal::NoPrefix => Numbered {
-            number: 7,
-            detail: 0,
-        },
-        Refusal::StartDiffers(start) => Numbered {
-            number: 8,
-            detail: start.0,
-        },
-        Refusal::PageDiffers(place) => Numbered {
-            number: 9,
-            detail: place,
-        },
-        Refusal::EndDiffers(place) => Numbered {
-            number: 10,
-            detail: place,
-        },
-        Refusal::ListTooLong(held) => Numbered {
-            number: 11,
-            detail: held,
-        },
-        Refusal::RowBelowPivot(row) => Numbered {
-            number: 12,
-            detail: row.0,
-        },
-        Refusal::ListTooShort(wanted) => Numbered {
-            number: 13,
-            detail: wanted,
-        },
+        Refusal::BadParameters => Numbered(1, 0),
+        Refusal::Unsound(node) => Numbered(2, node.0),
+        Refusal::Closed => Numbered(3, 0),
+        Refusal::RowLimit => Numbered(4, 0),
+        Refusal::NoRoom(needed) => Numbered(5, needed),
+        Refusal::HeightLimit => Numbered(6, 0),
+        Refusal::NoPrefix => Numbered(7, 0),
+        Refusal::StartDiffers(start) => Numbered(8, start.0),
+        Refusal::PageDiffers(place) => Numbered(9, place),
+        Refusal::EndDiffers(place) => Numbered(10, place),
+        Refusal::ListTooLong(held) => Numbered(11, held),
+        Refusal::RowBelowPivot(row) => Numbered(12, row.0),
+        Refusal::ListTooShort(wanted) => Numbered(13, wanted),
     }
 }
 
 fn put_refusal(out: &mut [u8], at: usize, n: Numbered) -> usize
-    ensures { λ p. ⌜ Puts (now (out .entry)) at (refusalLine (n .number) (n .detail)) (now (out .exit)) p ⌝ }
+    ensures { λ p. ⌜ Puts (now (out .entry)) at (refusalLine (n .0) (n .1)) (now (out .exit)) p ⌝ }
 {
-    text::put_line2(out, at, b"no", n.number, n.detail)
+    text::put_line2(out, at, b"no", n.0, n.1)
 }
 
 pub fn put_created(out: &mut [u8], at: usize, a: Created) -> usize
