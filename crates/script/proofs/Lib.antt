@@ -1,2 +1,3 @@
 pub mod Computed
 pub mod Stepping
+pub mod Fitting

@@ -2,11 +2,11 @@
 
 ghost use mathlib.Core.Path.{_≡_};
 ghost use mathlib.Core.Bool.{true};
-ghost use mathlib.Core.List.{[], _∷_};
+ghost use mathlib.Core.List.{[], _∷_, _++_};
 ghost use Prim.Native.Nat.{_+_, _≤_};
-ghost use lib.ListN.{drop, length};
+ghost use lib.ListN.{drop, length, take};
 ghost use Rattle.model.specs.Words.{freeCount};
-ghost use Rattle.text.specs.Lines.{Puts, line};
+ghost use Rattle.text.specs.Lines.{Puts, capped, line};
 ghost use Rattle.lines.specs.Names.{freeName};
 ghost use Rattle.records.specs.Records.{bodyLength, first, whole};
 ghost use Rattle.records.specs.Records as R;
@@ -121,10 +121,11 @@ fn run_on(s: &mut [u64], script: &[u8], out: &mut [u8]) -> usize
     free_step(&s[..], out, at)
 }
 
-// The listing of a script: the bytes that fit are written, and the whole length is returned.
+// The listing of a script: the bytes that fit are written, the rest stays, and the whole length is returned.
 #[no_mangle]
 pub extern "C" fn row_page_script(script: &[u8], out: &mut [u8]) -> usize
-    ensures { λ r. ⌜ Puts (now (out .entry)) 0 (listing (now (script .entry))) (now (out .exit)) r ⌝ }
+    ensures bytes { λ r. ⌜ now (out .exit) ≡ take (length (now (out .entry))) (listing (now (script .entry))) ++ drop (length (listing (now (script .entry)))) (now (out .entry)) ⌝ }
+    ensures length { λ r. ⌜ r ≡ capped (length (listing (now (script .entry)))) ⌝ }
 {
     let mut words = [0u64; 4096];
     run_on(&mut words, script, out)

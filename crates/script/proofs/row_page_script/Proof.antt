@@ -1,3 +1,4 @@
+use Rattle.script.proofs.Fitting.{fits}
 use Rattle.script.proofs.Stepping.{from-zeros}
 use borrow.Author.Needs.{needs}
 use Rattle.script.proofs.row_page_script.Statement.{statement}
@@ -13,7 +14,7 @@ same-length : tie.Need-same-length
 same-length c = search needs
 
 returns : tie.Need-returns
-returns c = rw (from-zeros 4096 (c .before .before .before .before .before .before .before .before .args .script .now)) at (c .before .before .before .run-on .ensures)
+returns c = fits (rw (from-zeros 4096 (c .before .before .before .before .before .before .before .before .args .script .now)) at (c .before .before .before .run-on .ensures))
 
 pub row-page-script-spec : {M : Type 1} → statement M
 row-page-script-spec =
