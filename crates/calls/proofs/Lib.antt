@@ -2,3 +2,4 @@ pub mod Performing
 pub mod Refused
 pub mod Walking
 pub mod Bound
+pub mod Suffice

@@ -21,7 +21,7 @@ use Rattle.lines.specs.Names.{createName, appendName, pruneName, releaseName, b
 
 -- Walks -------------------------------------------------------------------------------------------------
 
--- "the lists lent here always suffice": an entry takes two of the 4,096 words
+-- "the lists lent here always suffice": an entry takes two of the 4,096 words (proofs/Suffice: refusal 13 never comes)
 abbrev pub lentRecords : List PageEntry
 lentRecords = replicate 2048 (pageEntry 0 0)
 
