@@ -16,9 +16,26 @@ use model::answer::Refusal;
 use model::answer::RowLocation;
 
 // A refusal's number and its detail.
-pub struct Numbered {
-    pub number: u64,
-    pub detail: u64,
+pub struct Numbered(pub u64, pub u64);
+
+pub fn number_of(r: Refusal) -> Numbered
+    ensures { λ n. ⌜ refusal r ≡ refused (n .0) (n .1) ⌝ }
+{
+    match r {
+        Refusal::BadParameters => Numbered(1, 0),
+        Refusal::Unsound(node) => Numbered(2, node.0),
+        Refusal::Closed => Numbered(3, 0),
+        Refusal::RowLimit => Numbered(4, 0),
+        Refusal::NoRoom(needed) => Numbered(5, needed),
+        Refusal::HeightLimit => Numbered(6, 0),
+        Refusal::NoPrefix => Numbered(7, 0),
+        Refusal::StartDiffers(start) => Numbered(8, start.0),
+        Refusal::PageDiffers(place) => Numbered(9, place),
+        Refusal::EndDiffers(place) => Numbered(10, place),
+        Refusal::ListTooLong(held) => Numbered(11, held),
+        Refusal::RowBelowPivot(row) => Numbered(12, row.0),
+        Refusal::ListTooShort(wanted) => Numbered(13, wanted),
+    }
 }
 
 // Five words of an answer: number 0 and so many values, or a refusal's number and its detail as the only value.
@@ -28,65 +45,6 @@ pub struct Numbers {
     pub first: u64,
     pub second: u64,
     pub third: u64,
-}
-
-pub fn number_of(r: Refusal) -> Numbered
-    ensures { λ n. ⌜ refusal r ≡ refused (n .number) (n .detail) ⌝ }
-{
-    match r {
-        Refusal::BadParameters => Numbered {
-            number: 1,
-            detail: 0,
-        },
-        Refusal::Unsound(node) => Numbered {
-            number: 2,
-            detail: node.0,
-        },
-        Refusal::Closed => Numbered {
-            number: 3,
-            detail: 0,
-        },
-        Refusal::RowLimit => Numbered {
-            number: 4,
-            detail: 0,
-        },
-        Refusal::NoRoom(needed) => Numbered {
-            number: 5,
-            detail: needed,
-        },
-        Refusal::HeightLimit => Numbered {
-            number: 6,
-            detail: 0,
-        },
-        Refusal::NoPrefix => Numbered {
-            number: 7,
-            detail: 0,
-        },
-        Refusal::StartDiffers(start) => Numbered {
-            number: 8,
-            detail: start.0,
-        },
-        Refusal::PageDiffers(place) => Numbered {
-            number: 9,
-            detail: place,
-        },
-        Refusal::EndDiffers(place) => Numbered {
-            number: 10,
-            detail: place,
-        },
-        Refusal::ListTooLong(held) => Numbered {
-            number: 11,
-            detail: held,
-        },
-        Refusal::RowBelowPivot(row) => Numbered {
-            number: 12,
-            detail: row.0,
-        },
-        Refusal::ListTooShort(wanted) => Numbered {
-            number: 13,
-            detail: wanted,
-        },
-    }
 }
 
 // So many of three values.
@@ -107,9 +65,9 @@ fn refusal_numbers(r: Refusal) -> Numbers
 {
     let x = number_of(r);
     Numbers {
-        number: x.number,
+        number: x.0,
         count: 1,
-        first: x.detail,
+        first: x.1,
         second: 0,
         third: 0,
     }

@@ -11,7 +11,7 @@ use Rattle.model.specs.declared.answer.NextLeaf.{NextLeaf}
 use Rattle.model.specs.declared.node.PageEntry.{PageEntry}
 use Rattle.model.specs.declared.cursor.RowPageIndexMemCursor.{RowPageIndexMemCursor}
 use Rattle.model.proofs.Answers.{next-leaf-one}
-use Rattle.listing.proofs.Filling.{fill-is}
+use Rattle.model.proofs.Fill.{fill-is}
 use Rattle.byvalue.specs.Written.{wordsOf, WordSteps, recordsIn, WordOutcome, nextWordsOf}
 use Rattle.byvalue.specs.declared.WordStep.{WordStep}
 

@@ -9,7 +9,8 @@ use lib.ListN.{length, set, length-set}
 use Rattle.model.specs.Words.{fill, part, row, child}
 use Rattle.model.specs.LeafWalk.{pageEntry, records}
 use Rattle.model.specs.declared.node.PageEntry.{PageEntry}
-use Rattle.listing.proofs.Filling.{length-fill, length-records, records-snoc}
+use Rattle.model.proofs.Fill.{length-fill}
+use Rattle.listing.proofs.Filling.{length-records, records-snoc}
 use Rattle.byvalue.specs.Written.{wordsOf}
 
 length-words : (es : List PageEntry) → length (wordsOf es) ≡ 2 * length es

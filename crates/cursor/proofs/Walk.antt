@@ -22,7 +22,8 @@ use Rattle.model.proofs.Sound.{Begins, begins}
 use Rattle.formed.specs.Holds.{entriesFrom, Holds}
 use Rattle.formed.proofs.Linked.{Meets}
 use Rattle.formed.proofs.Opens.{goes-on}
-use Rattle.listing.proofs.Filling.{length-fill, length-records}
+use Rattle.model.proofs.Fill.{length-fill}
+use Rattle.listing.proofs.Filling.{length-records}
 use Rattle.cursor.specs.Walking.{LeafAt, leaves, storeLeaves, leafCount, pairOf, firstPairs, Gives, ended, one, From}
 use Rattle.cursor.proofs.Stepping.{still}
 use Rattle.cursor.proofs.Lined.{Good, Lined, Split, chosenIn, first-chosen, lined-good, lined-rest, lowOf, own, split}

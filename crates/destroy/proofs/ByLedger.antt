@@ -25,7 +25,7 @@ use Rattle.formed.proofs.Rooted.{sound-root}
 use Rattle.cut.proofs.CutTree.{occ-reverse}
 use Rattle.cut.proofs.PruneTree.{chain-free-all}
 use Rattle.destroy.specs.Ledgers.{AtOrAbove, Releases}
-use Rattle.listing.proofs.Filling.{fill-is}
+use Rattle.model.proofs.Fill.{fill-is}
 
 -- Entries of a ledger -------------------------------------------------------------------------------------
 

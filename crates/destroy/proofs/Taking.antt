@@ -27,7 +27,7 @@ use Rattle.reclaim.proofs.Freeing.{Freeable, enough, sound-in, goes-in}
 use Rattle.reclaim.proofs.Root.{start-freeing}
 use Rattle.destroy.specs.Pages.{pagesAt, pagesOf}
 use Rattle.destroy.specs.Releasable.{Releasable}
-use Rattle.listing.proofs.Filling.{fill-append, length-fill}
+use Rattle.model.proofs.Fill.{fill-append, length-fill}
 use Rattle.destroy.proofs.Found.{rest-pages}
 
 pub ready : {C P : ℕ} {w : List ℕ} {n k : ℕ} → Releasable C P w n k → Ready C P w n k

@@ -17,7 +17,7 @@ use Rattle.model.specs.declared.node.PageEntry.{PageEntry}
 use Rattle.model.specs.declared.cursor.RowPageIndexMemCursor.{RowPageIndexMemCursor}
 use Rattle.model.proofs.Tests.{by-test}
 use Rattle.formed.specs.Holds.{Holds}
-use Rattle.listing.proofs.Filling.{length-fill}
+use Rattle.model.proofs.Fill.{length-fill}
 use Rattle.cursor.specs.Walking.{firstPairs, Gives, one, ended}
 use Rattle.cursor.proofs.Walk.{read, none-some, third}
 use Rattle.history.specs.Calls.{Lent, reply, History}

@@ -19,7 +19,8 @@ use Rattle.model.specs.declared.cursor.RowPageIndexMemCursor.{RowPageIndexMemCu
 use Rattle.model.proofs.Tests.{by-test}
 use Rattle.formed.specs.Holds.{Holds}
 use Rattle.formed.proofs.Opens.{goes-on}
-use Rattle.listing.proofs.Filling.{fill-is, length-records}
+use Rattle.model.proofs.Fill.{fill-is}
+use Rattle.listing.proofs.Filling.{length-records}
 use Rattle.history.specs.Calls.{Lent, Reply, nextLeaf, reply}
 use Rattle.history.specs.Laws.{leafEnd, GivesLeaf, NextLaw}
 use Rattle.history.proofs.Leaves.{Spot, spot}

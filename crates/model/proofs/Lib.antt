@@ -9,3 +9,4 @@ pub mod Lookup
 pub mod Paths
 pub mod Writes
 pub mod Answers
+pub mod Fill

@@ -4,7 +4,7 @@ use mathlib.Core.Path.{_≡_, sym, ap, _∙_}
 use native.Mathlib.Omega.{arith}
 use lib.ListN.{length, length-set}
 use Rattle.model.specs.declared.node.PageEntry.{PageEntry}
-use Rattle.listing.proofs.Filling.{length-fill}
+use Rattle.model.proofs.Fill.{length-fill}
 use Rattle.byvalue.proofs.Writing.{upto, none, more}
 use Rattle.byvalue.proofs.copy_words.Statement.{statement}
 use Rattle.byvalue.proofs.copy_words.Tie as tie

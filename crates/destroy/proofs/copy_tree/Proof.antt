@@ -8,7 +8,7 @@ use Rattle.model.specs.Reading.{pageIds, rootEntries}
 use Rattle.model.specs.Paths.{lastOf}
 use Rattle.walk.specs.Left.{left}
 use Rattle.reclaim.proofs.Freeing.{last-top, inside, deep}
-use Rattle.listing.proofs.Filling.{length-fill}
+use Rattle.model.proofs.Fill.{length-fill}
 use Rattle.destroy.proofs.Taking.{Taking, start-taking, all-taken, leaf-room, takes-out, takes-in}
 use Rattle.destroy.proofs.copy_tree.Statement.{statement}
 use Rattle.destroy.proofs.copy_tree.Tie as tie

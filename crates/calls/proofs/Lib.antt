@@ -1,0 +1,5 @@
+pub mod Performing
+pub mod Refused
+pub mod Walking
+pub mod Bound
+pub mod Suffice

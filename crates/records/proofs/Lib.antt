@@ -1,0 +1,4 @@
+pub mod Little
+pub mod Asked
+pub mod Ids
+pub mod Heads

@@ -1,0 +1,3 @@
+pub mod Computed
+pub mod Stepping
+pub mod Fitting

@@ -1,0 +1,93 @@
+-- The record that bytes begin with, and the listing after it.
+use Prim.Native.Nat.{ℕ, zero, suc, _+_, _-_, _^_, _≤_, _<_}
+use mathlib.Core.Path.{_≡_, refl, sym, _∙_, ap}
+use mathlib.Core.List.{List, [], _∷_, _++_, append-nil}
+use mathlib.Core.Bool.{Bool, true, false}
+use native.Mathlib.Omega.{arith}
+use lib.ListN.{length, take, drop, replicate, length-drop, length-take, length-replicate}
+use lib.Seq.{drop-length, drop-drop}
+use Rattle.model.specs.Words.{pick}
+use Rattle.model.specs.Refusals.{Answer, result, refused}
+use Rattle.model.specs.Create.{create}
+use Rattle.model.proofs.Tests.{by-test}
+use Rattle.text.specs.Lines.{Puts}
+use Rattle.text.proofs.Putting.{joins}
+use Rattle.records.specs.Records.{Call, Create, Append, Find, Prune, Walk, Release, Bad, bodyLength, whole, first, asked}
+use Rattle.records.specs.Read.{headOf}
+use Rattle.records.specs.declared.Head.the-variants as H
+use Rattle.records.proofs.Heads.{within, wholly, badly}
+use Rattle.calls.specs.Calls.{Memory, perform}
+use Rattle.script.specs.Script.{listingFrom, listingOf}
+use Rattle.calls.specs.Steps.{memory, Does}
+use Rattle.calls.specs.declared.Progress.{Progress}
+
+pub first-bad : (bs : List ℕ) → H.Bad ≡ headOf bs → first bs ≡ Bad
+unfolding first
+first-bad bs e = rw (badly bs e)
+
+first-whole : (bs : List ℕ) (n : ℕ) → H.Whole n ≡ headOf bs → first bs ≡ asked (take n (drop 4 bs))
+unfolding first
+first-whole bs n e = let w = wholly bs n e in rw (w .whole, w .is)
+
+-- the body as it is cut out, and what it was found to ask for
+pub first-meant : (bs : List ℕ) (n : ℕ) → H.Whole n ≡ headOf bs → (x : Call) → x ≡ asked (take (4 + n - 4) (drop 4 bs)) → first bs ≡ x
+first-meant bs n h x e = let k : 4 + n - 4 ≡ n = omega arith in first-whole bs n h ∙ sym (rw k at e)
+
+pub body-short : (bs : List ℕ) (n : ℕ) → H.Whole n ≡ headOf bs → length (take (4 + n - 4) (drop 4 bs)) ≤ 4096
+body-short bs n h = omega (arith, length-take (4 + n - 4) (drop 4 bs), wholly bs n h .short)
+
+pub goes-whole : (m : Memory) (bs : List ℕ) → perform m (first bs) .goes ≡ true → whole bs ≡ true
+unfolding first perform
+goes-whole m bs g =
+    by-test (whole bs)
+    (λ t. t)
+    (λ t. let f : false ≡ true = rw t at g in let z : _≡_ {A = ℕ} 0 1 = cc in absurd (omega arith))
+
+-- The listing, record by record -------------------------------------------------------------------------------
+
+fuel : (j k : ℕ) (m : Memory) (bs : List ℕ) → length bs ≤ j → length bs ≤ k → listingFrom j m bs ≡ listingFrom k m bs
+unfolding listingFrom
+fuel zero zero m bs h l = refl
+fuel zero (suc k) m [] h l = refl
+fuel zero (suc k) m (b ∷ bs) h l = absurd (omega arith)
+fuel (suc j) zero m [] h l = refl
+fuel (suc j) zero m (b ∷ bs) h l = absurd (omega arith)
+fuel (suc j) (suc k) m [] h l = refl
+fuel (suc j) (suc k) m (b ∷ bs) h l =
+    let p = perform m (first (b ∷ bs)) in
+    let n = 4 + bodyLength (b ∷ bs) in
+    let d = length-drop n (b ∷ bs) in
+    let e = fuel j k (p .memory) (drop n (b ∷ bs)) (omega arith) (omega arith) in
+    ap (λ (more : List ℕ). p .lines ++ pick (p .goes) more []) e
+
+abbrev rest : List ℕ → List ℕ
+rest bs = drop (4 + bodyLength bs) bs
+
+one-record : (m : Memory) (bs : List ℕ) → 0 < length bs → listingFrom (length bs) m bs ≡ perform m (first bs) .lines ++ pick (perform m (first bs) .goes) (listingFrom (length (rest bs)) (perform m (first bs) .memory) (rest bs)) []
+unfolding listingFrom
+one-record m [] h = absurd (omega arith)
+one-record m (b ∷ bs) h =
+    let p = perform m (first (b ∷ bs)) in
+    let n = 4 + bodyLength (b ∷ bs) in
+    let d = length-drop n (b ∷ bs) in
+    let e = fuel (length bs) (length (rest (b ∷ bs))) (p .memory) (rest (b ∷ bs)) (omega arith) (omega arith) in
+    ap (λ (more : List ℕ). p .lines ++ pick (p .goes) more []) e
+
+module _ (w : List ℕ) (u : ℕ) (bs : List ℕ) (some : 0 < length bs) {out w₁ out₁ : List ℕ} {at : ℕ} {t : Progress} (d : Does (perform (memory w u) (first bs)) out at w₁ out₁ t) where
+  pub stops : t .goes ≡ false → Puts out at (listingFrom (length bs) (memory w u) bs) out₁ (t .at)
+  stops g =
+      let q : perform (memory w u) (first bs) .goes ≡ false = sym (d .goes) ∙ g in
+      rw (one-record (memory w u) bs some, q, append-nil) (d .puts)
+
+  pub goes-on : length out < 2 ^ 64 → t .goes ≡ true → (n : ℕ) → n ≡ 4 + bodyLength bs → (o : List ℕ) (r : ℕ) → Puts out₁ (t .at) (listingFrom (length (drop n bs)) (memory w₁ (t .used)) (drop n bs)) o r → Puts out at (listingFrom (length bs) (memory w u) bs) o r
+  goes-on h g n e o r p =
+      let q : perform (memory w u) (first bs) .goes ≡ true = sym (d .goes) ∙ g in
+      rw (one-record (memory w u) bs some, q) (joins h (d .puts) (rw (d .words, d .used, e) at p))
+
+  pub next-fits : t .goes ≡ true → 4 + bodyLength bs ≤ length bs
+  next-fits g = within bs (goes-whole (memory w u) bs (sym (d .goes) ∙ g)) .1
+
+-- the listing from words that are zero at first
+pub from-zeros : (n : ℕ) (bs : List ℕ) → listingFrom (length bs) (memory (replicate n 0) (length {A = ℕ} (replicate n 0))) bs ≡ listingOf n bs
+unfolding listingOf
+from-zeros n bs = let z : ℕ = 0 in rw (length-replicate n z)
