@@ -4,8 +4,7 @@
 // the store is read for them. After a refused call the store must have the words that it had, and what was lent behind
 // the answer must stay. Refusal 6 cannot be met: so few nodes do not reach height 31.
 // Two lines for each capacity. The first: creates, appends, rows found, rows not found, prunes, leaves, walks ended, full
-// checks and releases accepted. The second: refusals 3, 4, 5, 7, 8, 9, 10, 11, 12 and 13, what was folded of all answers,
-// and how many answers, words or lists were wrong.
+// checks and releases accepted. The second: refusals 3 to 13, what was folded of all answers, and how many answers, words or lists were wrong.
 
 use byvalue;
 use byvalue::WordStep;
@@ -341,14 +340,14 @@ fn copy(from: &[u64], to: &mut [u64]) {
     }
 }
 
-// Whether two stores have the same words.
-fn same(a: &[u64], b: &[u64]) -> bool {
-    if a.len() != b.len() {
-        return false;
-    }
+// Whether a store has the words of a copy, which may be longer.
+fn same(s: &[u64], before: &[u64]) -> bool {
     let mut i: usize = 0;
-    while i < a.len() {
-        if a[i] != b[i] {
+    while i < s.len() {
+        if before.len() <= i {
+            return false;
+        }
+        if s[i] != before[i] {
             return false;
         }
         i += 1;
@@ -454,17 +453,12 @@ fn write_range(book: &mut [u64], n: u64, end: u64, page: u64, level: u64) {
     put(book, place(n, 2), level);
 }
 
-fn append_call(
-    s: &mut [u64],
-    before: &[u64],
-    book: &mut [u64],
-    rows: u64,
-    page: u64,
-    run: State,
-) -> State {
+fn append_call(s: &mut [u64], book: &mut [u64], rows: u64, page: u64, run: State) -> State {
+    let mut before = [0u64; 456];
+    copy(&s[..], &mut before);
     let want = want_insert(&book[..], run, rows);
     let got = of_insert(insert::insert_row_page(s, rows, PageID(page)));
-    let kept = same(&s[..], before);
+    let kept = same(&s[..], &before);
     let mut r = judge(run, 1, got, want, kept);
     if want.no != 0 {
         return r;
@@ -485,11 +479,6 @@ fn rows_of(seed: u64) -> u64 {
         return 1 << 62;
     }
     plus(1, choose(seed, 32, 20))
-}
-
-fn append(s: &mut [u64], before: &mut [u64], book: &mut [u64], r: State) -> State {
-    copy(&s[..], before);
-    append_call(s, &before[..], book, rows_of(r.seed), r.seed, r)
 }
 
 fn want_find(book: &[u64], r: State, row: u64) -> Answer {
@@ -599,17 +588,12 @@ fn drop_ranges(book: &mut [u64], n: u64, k: u64) {
     put(book, 2, 64);
 }
 
-fn prune_call(
-    s: &mut [u64],
-    before: &[u64],
-    book: &mut [u64],
-    ids: &[u64],
-    c: Cut,
-    run: State,
-) -> State {
+fn prune_call(s: &mut [u64], book: &mut [u64], ids: &[u64], c: Cut, run: State) -> State {
+    let mut before = [0u64; 456];
+    copy(&s[..], &mut before);
     let want = want_prune(&book[..], run, c, ids);
     let got = of_prune(prune::prune_checkpoint_prefix(s, RowID(c.start), RowID(c.end), ids));
-    let kept = same(&s[..], before);
+    let kept = same(&s[..], &before);
     let mut r = judge(run, 4, got, want, kept);
     if want.no != 0 {
         return r;
@@ -629,49 +613,31 @@ fn load(book: &[u64], list: &mut [u64]) {
     }
 }
 
-// Wrong arguments for the first k of n ranges, which end at a row: no ids, no rows, another start, one row less, one row
-// more, one id too many; above 5 the right ones.
+// Arguments for the first k ranges, which end at a row. By v: no ids, no rows, another start, one row less, one row more;
+// else the right ones.
 fn cut_of(start: u64, end: u64, k: u64, v: u64) -> Cut {
-    if v == 0 {
-        return Cut {
-            start,
-            end,
-            count: 0,
-        };
-    }
-    if v == 1 {
-        return Cut {
-            start,
-            end: start,
-            count: k,
-        };
-    }
-    if v == 2 {
-        return Cut {
-            start: plus(start, 1),
-            end: plus(end, 2),
-            count: k,
-        };
-    }
-    if v == 3 {
-        return Cut {
-            start,
-            end: minus(end, 1),
-            count: k,
-        };
-    }
-    if v == 4 {
-        return Cut {
-            start,
-            end: plus(end, 1),
-            count: k,
-        };
-    }
-    Cut {
+    let mut c = Cut {
         start,
         end,
         count: k,
+    };
+    if v == 0 {
+        c.count = 0;
     }
+    if v == 1 {
+        c.end = start;
+    }
+    if v == 2 {
+        c.start = plus(start, 1);
+        c.end = plus(end, 2);
+    }
+    if v == 3 {
+        c.end = minus(end, 1);
+    }
+    if v == 4 {
+        c.end = plus(end, 1);
+    }
+    c
 }
 
 // How many ranges a prune is to name: mostly few.
@@ -685,18 +651,18 @@ fn prune_count(r: State) -> u64 {
     plus(1, choose(r.seed, 32, least(r.count, 7)))
 }
 
-// The arguments of a prune.
+// The arguments of a prune; where v is 5, one id too many.
 fn make_cut(book: &[u64], r: State, v: u64) -> Cut {
+    let mut k = prune_count(r);
     if v == 5 {
-        let end = begin_of(book, r.start, r.count);
-        return Cut {
-            start: r.start,
-            end: plus(end, 1),
-            count: plus(r.count, 1),
-        };
+        k = r.count;
     }
-    let k = prune_count(r);
-    cut_of(r.start, begin_of(book, r.start, k), k, v)
+    let mut c = cut_of(r.start, begin_of(book, r.start, k), k, v);
+    if v == 5 {
+        c.end = plus(c.end, 1);
+        c.count = plus(k, 1);
+    }
+    c
 }
 
 // Where v is 6, one of the first k ids becomes another.
@@ -724,18 +690,21 @@ fn part(ids: &[u64], from: u64, to: u64) -> &[u64] {
     &ids[a..b]
 }
 
-fn prune_prefix(
-    s: &mut [u64],
-    before: &mut [u64],
-    book: &mut [u64],
-    list: &mut [u64],
-    r: State,
-) -> State {
+fn prune_prefix(s: &mut [u64], book: &mut [u64], r: State) -> State {
     let v = choose(r.seed, 16, 10);
     let c = make_cut(&book[..], r, v);
-    make_list(&book[..], list, c.count, r, v);
-    copy(&s[..], before);
-    prune_call(s, &before[..], book, part(&list[..], 0, c.count), c, r)
+    let mut list = [0u64; 256];
+    make_list(&book[..], &mut list, c.count, r, v);
+    prune_call(s, book, part(&list, 0, c.count), c, r)
+}
+
+// The last words of a list.
+fn last_words(list: &mut [u64], words: u64) -> &mut [u64] {
+    let first = minus(list.len() as u64, words) as usize;
+    if list.len() < first {
+        return list;
+    }
+    &mut list[first..]
 }
 
 fn fill(list: &mut [u64], x: u64) {
@@ -864,21 +833,28 @@ fn walk_from(s: &[u64], book: &[u64], list: &mut [u64], row: u64, r: State) -> S
     )
 }
 
-// With a list of capacity records, sometimes with fewer or more words.
-fn walk(s: &[u64], book: &[u64], list: &mut [u64], r: State) -> State {
-    let mut words = plus(r.capacity, r.capacity);
+// The words of a walk's list: those of capacity records, sometimes fewer or more.
+fn record_words(r: State) -> u64 {
+    let words = plus(r.capacity, r.capacity);
     let v = choose(r.seed, 44, 16);
     if v == 0 {
-        words = minus(words, 1);
+        return minus(words, 1);
     }
     if v == 1 {
-        words = plus(words, 3);
+        return plus(words, 3);
     }
-    let first = minus(list.len() as u64, words) as usize;
-    if list.len() < first {
-        return add_wrong(r);
-    }
-    walk_from(s, book, &mut list[first..], row_of(book, r), r)
+    words
+}
+
+fn walk(s: &[u64], book: &[u64], r: State) -> State {
+    let mut list = [0u64; 256];
+    walk_from(
+        s,
+        book,
+        last_words(&mut list, record_words(r)),
+        row_of(book, r),
+        r,
+    )
 }
 
 fn want_check(book: &[u64], r: State) -> Answer {
@@ -951,17 +927,12 @@ fn release_into(s: &mut [u64], list: &mut [u64], pivot: u64, x: u64) -> Answer {
     of_destroy(destroy::destroy(s, RowID(pivot), list))
 }
 
-fn release_call(
-    s: &mut [u64],
-    before: &[u64],
-    book: &[u64],
-    list: &mut [u64],
-    pivot: u64,
-    run: State,
-) -> State {
+fn release_call(s: &mut [u64], book: &[u64], list: &mut [u64], pivot: u64, run: State) -> State {
+    let mut before = [0u64; 456];
+    copy(&s[..], &mut before);
     let want = want_destroy(book, run, pivot, list.len() as u64);
     let got = release_into(s, list, pivot, run.seed);
-    let kept = same(&s[..], before);
+    let kept = same(&s[..], &before);
     let r = judge(run, 8, got, want, kept);
     judge_pages(book, &list[..], want, r)
 }
@@ -977,10 +948,12 @@ fn want_empty(r: State) -> Answer {
     refusal(12, 0)
 }
 
-fn release_empty(s: &mut [u64], before: &[u64], run: State) -> State {
+fn release_empty(s: &mut [u64], run: State) -> State {
+    let mut before = [0u64; 456];
+    copy(&s[..], &mut before);
     let want = want_empty(run);
     let got = of_destroy(destroy::destroy_empty(s));
-    let kept = same(&s[..], before);
+    let kept = same(&s[..], &before);
     let mut r = judge(run, 8, got, want, kept);
     if want.no == 0 {
         r.open = false;
@@ -988,38 +961,28 @@ fn release_empty(s: &mut [u64], before: &[u64], run: State) -> State {
     r
 }
 
-// With a list that is one word shorter than the ledger, or with some more words.
-fn release_list(
-    s: &mut [u64],
-    before: &[u64],
-    book: &[u64],
-    list: &mut [u64],
-    pivot: u64,
-    short: bool,
-    r: State,
-) -> State {
-    let mut words = plus(r.count, choose(r.seed, 32, 3));
-    if short {
-        words = minus(r.count, 1);
+// The words of a release's list: some more than there are pages, or one less.
+fn page_words(r: State, v: u64) -> u64 {
+    if v < 10 {
+        return minus(r.count, 1);
     }
-    let first = minus(list.len() as u64, words) as usize;
-    if list.len() < first {
-        return add_wrong(r);
-    }
-    release_call(s, before, book, &mut list[first..], pivot, r)
+    plus(r.count, choose(r.seed, 32, 3))
 }
 
-// The empty form, below the pivot, with a short list; seldom a release that is accepted.
-fn release(s: &mut [u64], before: &mut [u64], book: &[u64], list: &mut [u64], r: State) -> State {
-    copy(&s[..], before);
+// The empty form, with a short list, below the pivot; seldom a release that is accepted.
+fn release(s: &mut [u64], book: &[u64], r: State) -> State {
     let v = choose(r.seed, 16, 16);
     if v < 5 {
-        return release_empty(s, &before[..], r);
+        return release_empty(s, r);
     }
-    if v < 10 {
-        return release_list(s, &before[..], book, list, plus(r.start, 1), false, r);
+    let mut pivot = r.start;
+    if v < 15 {
+        if 9 < v {
+            pivot = plus(r.start, 1);
+        }
     }
-    release_list(s, &before[..], book, list, r.start, v < 15, r)
+    let mut list = [0u64; 256];
+    release_call(s, book, last_words(&mut list, page_words(r, v)), pivot, r)
 }
 
 fn want_create(start: u64) -> Answer {
@@ -1029,10 +992,12 @@ fn want_create(start: u64) -> Answer {
     done(0, 0, 0)
 }
 
-fn create_call(s: &mut [u64], before: &[u64], start: u64, run: State) -> State {
+fn create_call(s: &mut [u64], start: u64, run: State) -> State {
+    let mut before = [0u64; 456];
+    copy(&s[..], &mut before);
     let want = want_create(start);
     let got = of_create(create::new(s, run.capacity, run.nodes, RowID(start)));
-    let kept = same(&s[..], before);
+    let kept = same(&s[..], &before);
     let mut r = judge(run, 0, got, want, kept);
     if want.no == 0 {
         r.open = true;
@@ -1042,80 +1007,67 @@ fn create_call(s: &mut [u64], before: &[u64], start: u64, run: State) -> State {
     r
 }
 
-// Of a closed store; sometimes with a start above the limit.
-fn create_again(s: &mut [u64], before: &mut [u64], r: State) -> State {
-    copy(&s[..], before);
-    if choose(r.seed, 16, 4) == 0 {
-        return create_call(s, &before[..], (1 << 62) + 1, r);
+// The start of a new store, sometimes above the limit.
+fn start_of(seed: u64) -> u64 {
+    if choose(seed, 16, 4) == 0 {
+        return (1 << 62) + 1;
     }
-    create_call(s, &before[..], choose(r.seed, 32, 60000), r)
+    choose(seed, 32, 60000)
 }
 
 // A call that reads.
-fn read_call(s: &[u64], book: &[u64], list: &mut [u64], r: State, v: u64) -> State {
+fn read_call(s: &[u64], book: &[u64], r: State, v: u64) -> State {
     if v < 40 {
         return lookup(s, book, r);
     }
     if v < 45 {
-        return walk(s, book, list, r);
+        return walk(s, book, r);
     }
     check(s, book, r)
 }
 
-// One call.
-fn call(
-    s: &mut [u64],
-    before: &mut [u64],
-    book: &mut [u64],
-    list: &mut [u64],
-    r: State,
-    v: u64,
-) -> State {
-    if v < 28 {
-        return append(s, before, book, r);
-    }
-    if v < 48 {
-        return read_call(&s[..], &book[..], list, r, v);
-    }
-    if v < 60 {
-        return prune_prefix(s, before, book, list, r);
-    }
-    release(s, before, &book[..], list, r)
-}
-
-// One call of a history; a closed store is soon created again.
-fn step(
-    s: &mut [u64],
-    before: &mut [u64],
-    book: &mut [u64],
-    list: &mut [u64],
-    run: State,
-) -> State {
+// The next seed.
+fn next_state(run: State) -> State {
     let mut r = run;
     r.seed = xorshift(r.seed);
+    r
+}
+
+// What is called next, below 64; or 64, a create, soon after a release.
+fn kind_of(r: State) -> u64 {
     let v = choose(r.seed, 0, 64);
     let open = r.open;
     if open {
-        return call(s, before, book, list, r, v);
+        return v;
     }
     if v % 8 == 0 {
-        return create_again(s, before, r);
+        return 64;
     }
-    call(s, before, book, list, r, v)
+    v
 }
 
-fn history(
-    s: &mut [u64],
-    before: &mut [u64],
-    book: &mut [u64],
-    list: &mut [u64],
-    calls: u64,
-    run: State,
-) -> State {
+fn call(s: &mut [u64], book: &mut [u64], r: State) -> State {
+    let v = kind_of(r);
+    if v < 28 {
+        return append_call(s, book, rows_of(r.seed), r.seed, r);
+    }
+    if v < 48 {
+        return read_call(&s[..], &book[..], r, v);
+    }
+    if v < 60 {
+        return prune_prefix(s, book, r);
+    }
+    if v < 64 {
+        return release(s, &book[..], r);
+    }
+    create_call(s, start_of(r.seed), r)
+}
+
+fn history(s: &mut [u64], book: &mut [u64], calls: u64, run: State) -> State {
     let mut r = run;
     let mut more = calls;
     while 0 < more {
-        r = step(s, before, book, list, r);
+        r = call(s, book, next_state(r));
         more -= 1;
     }
     r
@@ -1133,29 +1085,20 @@ fn print_end() {
 }
 
 fn print_accepted(r: State) {
-    print(r.accepted[0]);
-    print(r.accepted[1]);
-    print(r.accepted[2]);
-    print(r.accepted[3]);
-    print(r.accepted[4]);
-    print(r.accepted[5]);
-    print(r.accepted[6]);
-    print(r.accepted[7]);
-    print(r.accepted[8]);
+    let mut i: usize = 0;
+    while i < 9 {
+        print(r.accepted[i]);
+        i += 1;
+    }
     print_end();
 }
 
 fn print_refused(r: State) {
-    print(r.refused[3]);
-    print(r.refused[4]);
-    print(r.refused[5]);
-    print(r.refused[7]);
-    print(r.refused[8]);
-    print(r.refused[9]);
-    print(r.refused[10]);
-    print(r.refused[11]);
-    print(r.refused[12]);
-    print(r.refused[13]);
+    let mut i: usize = 3;
+    while i < 14 {
+        print(r.refused[i]);
+        i += 1;
+    }
 }
 
 fn print_run(r: State) {
@@ -1189,24 +1132,19 @@ fn start_run(capacity: u64, nodes: u64, seed: u64) -> State {
 }
 
 // A history in a store of so many nodes, and its lines.
-fn run_history(capacity: u64, nodes: u64, seed: u64, s: &mut [u64], before: &mut [u64]) {
+fn run_history(capacity: u64, nodes: u64, seed: u64, s: &mut [u64]) {
     let mut book = [0u64; 768];
-    let mut list = [0u64; 256];
-    let r = create_call(s, &before[..], 1000, start_run(capacity, nodes, seed));
-    print_run(history(s, before, &mut book, &mut list, 5000, r));
+    let r = create_call(s, 1000, start_run(capacity, nodes, seed));
+    print_run(history(s, &mut book, 5000, r));
 }
 
 fn main() {
     let mut s2 = [0u64; 264];
-    let mut before2 = [0u64; 264];
-    run_history(2, 32, 2, &mut s2, &mut before2);
+    run_history(2, 32, 2, &mut s2);
     let mut s3 = [0u64; 328];
-    let mut before3 = [0u64; 328];
-    run_history(3, 32, 3, &mut s3, &mut before3);
+    run_history(3, 32, 3, &mut s3);
     let mut s4 = [0u64; 392];
-    let mut before4 = [0u64; 392];
-    run_history(4, 32, 4, &mut s4, &mut before4);
+    run_history(4, 32, 4, &mut s4);
     let mut s5 = [0u64; 456];
-    let mut before5 = [0u64; 456];
-    run_history(5, 32, 5, &mut s5, &mut before5);
+    run_history(5, 32, 5, &mut s5);
 }

@@ -5,16 +5,19 @@ use Rattle.history_cases.proofs.history.Statement.{statement}
 use Rattle.history_cases.proofs.history.Tie as tie
 
 abbrev Inv-loop : tie.InvT-loop
-Inv-loop s₀ before₀ book₀ list₀ calls r₀ more₀ s before book list r more = (length s ≡ length s₀) × (length before ≡ length before₀) × (length book ≡ length book₀) × (length list ≡ length list₀)
+Inv-loop s₀ book₀ calls r₀ more₀ s book r more = (length s ≡ length s₀) × (length book ≡ length book₀)
 
 abbrev μ-loop : tie.MeasureT-loop
-μ-loop s₀ before₀ book₀ list₀ calls r₀ more₀ s before book list r more = more
+μ-loop s₀ book₀ calls r₀ more₀ s book r more = more
 
 loop-holds : tie.Need-loop-holds Inv-loop μ-loop
 loop-holds c = search needs
 
-step-requires : tie.Need-step-requires Inv-loop μ-loop
-step-requires c κs = search needs
+next-state-requires : tie.Need-next-state-requires Inv-loop μ-loop
+next-state-requires c κs = search needs
+
+call-requires : tie.Need-call-requires Inv-loop μ-loop
+call-requires c κs = search needs
 
 sub-more : tie.Need-sub-more Inv-loop μ-loop
 sub-more c = search needs
@@ -31,12 +34,6 @@ same-length c = search needs
 same-length-2 : tie.Need-same-length-2 Inv-loop μ-loop
 same-length-2 c = search needs
 
-same-length-3 : tie.Need-same-length-3 Inv-loop μ-loop
-same-length-3 c = search needs
-
-same-length-4 : tie.Need-same-length-4 Inv-loop μ-loop
-same-length-4 c = search needs
-
 returns : tie.Need-returns Inv-loop μ-loop
 returns c = search needs
 
@@ -47,12 +44,11 @@ history-spec =
     Inv-loop
     μ-loop
     loop-holds
-    step-requires
+    next-state-requires
+    call-requires
     sub-more
     loop-less
     loop-again
     same-length
     same-length-2
-    same-length-3
-    same-length-4
     returns)

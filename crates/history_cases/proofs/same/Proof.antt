@@ -1,21 +1,20 @@
 use borrow.Author.Needs.{needs}
-use Prim.Native.Nat.{_-_}
-use mathlib.Core.Path.{_≡_}
+use Prim.Native.Nat.{_-_, _≤_}
 use lib.ListN.{length}
 use Rattle.history_cases.proofs.same.Statement.{statement}
 use Rattle.history_cases.proofs.same.Tie as tie
 
 abbrev Inv-loop : tie.InvT-loop
-Inv-loop a b i₀ i = length a ≡ length b
+Inv-loop s before i₀ i = 0 ≤ i
 
 abbrev μ-loop : tie.MeasureT-loop
-μ-loop a b i₀ i = length a - i
-
-returns : tie.Need-returns Inv-loop μ-loop
-returns c = search needs
+μ-loop s before i₀ i = length s - i
 
 loop-holds : tie.Need-loop-holds Inv-loop μ-loop
 loop-holds c = search needs
+
+returns : tie.Need-returns Inv-loop μ-loop
+returns c = search needs
 
 mul-if2 : tie.Need-mul-if2 Inv-loop μ-loop
 mul-if2 c = search needs
@@ -50,8 +49,8 @@ same-spec =
     (tie.spec
     Inv-loop
     μ-loop
-    returns
     loop-holds
+    returns
     mul-if2
     shared-slice-read-if2
     mul-if2-2
