@@ -1,10 +1,11 @@
 // Seeded random histories of the compiled library at capacities 2 to 5, each answer compared with a ledger. The ledger's
 // book has three words to a range: its end, its page, and its level, the number of nodes that begin with it on a new path.
 // Nodes wanted, taken, freed and left, levels collapsed and the leaves of a walk follow from the levels alone; no word of
-// the store is read for them. After a refused call the store must have the words that it had, and what was lent behind
-// the answer must stay. Refusal 6 cannot be met: so few nodes do not reach height 31.
+// the store is read for them. After a refused call the store must have the words that it had, and of a lent list what is
+// past the answer must stay. Refusal 6 cannot be met: so few nodes do not reach height 31.
 // Two lines for each capacity. The first: creates, appends, rows found, rows not found, prunes, leaves, walks ended, full
-// checks and releases accepted. The second: refusals 3 to 13, what was folded of all answers, and how many answers, words or lists were wrong.
+// checks and releases accepted. The second: refusals 3 to 13, all answers folded into a number, and how many
+// answers, stores or lists were wrong.
 
 use byvalue;
 use byvalue::WordStep;
@@ -21,7 +22,8 @@ use model::cursor::RowPageIndexMemCursor;
 use model::id::PageID;
 use model::id::RowID;
 
-// What the ledger holds beside its book, and what was seen.
+// What the ledger holds beside its book, and what was seen: calls has the refused calls by number, and from 14 on the
+// accepted ones by kind.
 struct State {
     capacity: u64,
     nodes: u64,
@@ -29,8 +31,7 @@ struct State {
     start: u64,
     count: u64,
     seed: u64,
-    accepted: [u64; 16],
-    refused: [u64; 16],
+    calls: [u64; 24],
     sum: u64,
     wrong: u64,
 }
@@ -49,6 +50,25 @@ struct Cut {
     end: u64,
     count: u64,
 }
+
+// The kinds of accepted calls.
+const CREATED: u64 = 14;
+
+const APPENDED: u64 = 15;
+
+const FOUND: u64 = 16;
+
+const NOT_FOUND: u64 = 17;
+
+const PRUNED: u64 = 18;
+
+const LEAF: u64 = 19;
+
+const WALKED: u64 = 20;
+
+const CHECKED: u64 = 21;
+
+const RELEASED: u64 = 22;
 
 fn plus(a: u64, b: u64) -> u64 {
     if a <= u64::MAX - b {
@@ -102,40 +122,22 @@ fn refusal(no: u64, detail: u64) -> Answer {
     }
 }
 
-fn number(r: Refusal) -> u64 {
-    match r {
-        Refusal::BadParameters => 1,
-        Refusal::Unsound(_) => 2,
-        Refusal::Closed => 3,
-        Refusal::RowLimit => 4,
-        Refusal::NoRoom(_) => 5,
-        Refusal::HeightLimit => 6,
-        Refusal::NoPrefix => 7,
-        Refusal::StartDiffers(_) => 8,
-        Refusal::PageDiffers(_) => 9,
-        Refusal::EndDiffers(_) => 10,
-        Refusal::ListTooLong(_) => 11,
-        Refusal::RowBelowPivot(_) => 12,
-        Refusal::ListTooShort(_) => 13,
-    }
-}
-
-fn detail(r: Refusal) -> u64 {
-    match r {
-        Refusal::Unsound(n) => n.0,
-        Refusal::NoRoom(needed) => needed,
-        Refusal::StartDiffers(row) => row.0,
-        Refusal::PageDiffers(place) => place,
-        Refusal::EndDiffers(place) => place,
-        Refusal::ListTooLong(held) => held,
-        Refusal::RowBelowPivot(row) => row.0,
-        Refusal::ListTooShort(wanted) => wanted,
-        _ => 0,
-    }
-}
-
 fn told(r: Refusal) -> Answer {
-    refusal(number(r), detail(r))
+    match r {
+        Refusal::BadParameters => refusal(1, 0),
+        Refusal::Unsound(n) => refusal(2, n.0),
+        Refusal::Closed => refusal(3, 0),
+        Refusal::RowLimit => refusal(4, 0),
+        Refusal::NoRoom(needed) => refusal(5, needed),
+        Refusal::HeightLimit => refusal(6, 0),
+        Refusal::NoPrefix => refusal(7, 0),
+        Refusal::StartDiffers(row) => refusal(8, row.0),
+        Refusal::PageDiffers(place) => refusal(9, place),
+        Refusal::EndDiffers(place) => refusal(10, place),
+        Refusal::ListTooLong(held) => refusal(11, held),
+        Refusal::RowBelowPivot(row) => refusal(12, row.0),
+        Refusal::ListTooShort(wanted) => refusal(13, wanted),
+    }
 }
 
 fn of_create(answer: Created) -> Answer {
@@ -361,21 +363,12 @@ fn add_wrong(run: State) -> State {
     r
 }
 
-fn add_accepted(run: State, kind: usize) -> State {
+fn add_call(run: State, kind: u64) -> State {
     let mut r = run;
-    if kind < 16 {
-        let seen = r.accepted[kind];
-        r.accepted[kind] = plus(seen, 1);
-    }
-    r
-}
-
-fn add_refused(run: State, no: u64) -> State {
-    let mut r = run;
-    let i = no as usize;
-    if i < 16 {
-        let seen = r.refused[i];
-        r.refused[i] = plus(seen, 1);
+    let i = kind as usize;
+    if i < 24 {
+        let seen = r.calls[i];
+        r.calls[i] = plus(seen, 1);
     }
     r
 }
@@ -402,7 +395,7 @@ fn is_same(x: Answer, y: Answer) -> bool {
 }
 
 // An answer is counted, and compared with the ledger's; kept says whether the words are those from before the call.
-fn judge(run: State, kind: usize, got: Answer, want: Answer, kept: bool) -> State {
+fn judge(run: State, kind: u64, got: Answer, want: Answer, kept: bool) -> State {
     let mut r = run;
     r.sum = fold_answer(r.sum, got);
     let equal = is_same(got, want);
@@ -410,12 +403,12 @@ fn judge(run: State, kind: usize, got: Answer, want: Answer, kept: bool) -> Stat
         r = add_wrong(r);
     }
     if got.no == 0 {
-        return add_accepted(r, kind);
+        return add_call(r, kind);
     }
     if !kept {
         r = add_wrong(r);
     }
-    add_refused(r, got.no)
+    add_call(r, got.no)
 }
 
 fn want_insert(book: &[u64], r: State, rows: u64) -> Answer {
@@ -453,20 +446,25 @@ fn write_range(book: &mut [u64], n: u64, end: u64, page: u64, level: u64) {
     put(book, place(n, 2), level);
 }
 
+// An accepted append goes into the book.
+fn add_range(book: &mut [u64], page: u64, answer: Answer, run: State) -> State {
+    let mut r = run;
+    if answer.no != 0 {
+        return r;
+    }
+    let level = new_level(&book[..], r.count, answer.c);
+    write_range(book, r.count, answer.b, page, level);
+    r.count = plus(r.count, 1);
+    r
+}
+
 fn append_call(s: &mut [u64], book: &mut [u64], rows: u64, page: u64, run: State) -> State {
     let mut before = [0u64; 456];
     copy(&s[..], &mut before);
     let want = want_insert(&book[..], run, rows);
     let got = of_insert(insert::insert_row_page(s, rows, PageID(page)));
     let kept = same(&s[..], &before);
-    let mut r = judge(run, 1, got, want, kept);
-    if want.no != 0 {
-        return r;
-    }
-    let level = new_level(&book[..], r.count, want.c);
-    write_range(book, r.count, want.b, page, level);
-    r.count = plus(r.count, 1);
-    r
+    add_range(book, page, want, judge(run, APPENDED, got, want, kept))
 }
 
 // Mostly up to 20 rows; sometimes none, or more than there are.
@@ -516,9 +514,9 @@ fn lookup(s: &[u64], book: &[u64], r: State) -> State {
     let row = row_of(book, r);
     let want = want_find(book, r, row);
     let got = of_find(find::try_find_row(s, RowID(row)));
-    let mut kind: usize = 2;
+    let mut kind = FOUND;
     if want.a == 0 {
-        kind = 3;
+        kind = NOT_FOUND;
     }
     judge(r, kind, got, want, true)
 }
@@ -588,20 +586,25 @@ fn drop_ranges(book: &mut [u64], n: u64, k: u64) {
     put(book, 2, 64);
 }
 
-fn prune_call(s: &mut [u64], book: &mut [u64], ids: &[u64], c: Cut, run: State) -> State {
-    let mut before = [0u64; 456];
-    copy(&s[..], &mut before);
-    let want = want_prune(&book[..], run, c, ids);
-    let got = of_prune(prune::prune_checkpoint_prefix(s, RowID(c.start), RowID(c.end), ids));
-    let kept = same(&s[..], &before);
-    let mut r = judge(run, 4, got, want, kept);
-    if want.no != 0 {
+// What an accepted prune removes goes from the book.
+fn remove_ranges(book: &mut [u64], c: Cut, answer: Answer, run: State) -> State {
+    let mut r = run;
+    if answer.no != 0 {
         return r;
     }
     drop_ranges(book, r.count, c.count);
     r.start = c.end;
     r.count = minus(r.count, c.count);
     r
+}
+
+fn prune_call(s: &mut [u64], book: &mut [u64], ids: &[u64], c: Cut, run: State) -> State {
+    let mut before = [0u64; 456];
+    copy(&s[..], &mut before);
+    let want = want_prune(&book[..], run, c, ids);
+    let got = of_prune(prune::prune_checkpoint_prefix(s, RowID(c.start), RowID(c.end), ids));
+    let kept = same(&s[..], &before);
+    remove_ranges(book, c, want, judge(run, PRUNED, got, want, kept))
 }
 
 // The page ids of the ledger.
@@ -763,9 +766,9 @@ fn has_records(book: &[u64], list: &[u64], start: u64, from: u64, count: u64, re
 
 fn judge_leaf(book: &[u64], list: &[u64], from: u64, got: Answer, run: State) -> State {
     let want = want_leaf(book, run, from, list.len() as u64);
-    let mut kind: usize = 5;
+    let mut kind = LEAF;
     if want.a == u64::MAX {
-        kind = 6;
+        kind = WALKED;
     }
     let r = judge(run, kind, got, want, true);
     let told = has_records(book, list, run.start, from, want.c, run.seed);
@@ -869,7 +872,7 @@ fn want_check(book: &[u64], r: State) -> Answer {
 fn check(s: &[u64], book: &[u64], r: State) -> State {
     let want = want_check(book, r);
     let got = of_check(full_check::full_check(s));
-    judge(r, 7, got, want, true)
+    judge(r, CHECKED, got, want, true)
 }
 
 // Of a release with a list of so many words.
@@ -907,18 +910,21 @@ fn has_pages(book: &[u64], list: &[u64], n: u64, rest: u64) -> bool {
     true
 }
 
-fn judge_pages(book: &[u64], list: &[u64], want: Answer, run: State) -> State {
+// An accepted release closes the store.
+fn close(answer: Answer, run: State) -> State {
     let mut r = run;
-    let mut pages: u64 = 0;
-    if want.no == 0 {
-        pages = want.b;
+    if answer.no == 0 {
         r.open = false;
     }
-    let told = has_pages(book, list, pages, run.seed);
-    if !told {
-        return add_wrong(r);
-    }
     r
+}
+
+fn judge_pages(book: &[u64], list: &[u64], want: Answer, run: State) -> State {
+    let told = has_pages(book, list, want.b, run.seed);
+    if !told {
+        return add_wrong(run);
+    }
+    run
 }
 
 // A release into a list that was filled.
@@ -933,8 +939,8 @@ fn release_call(s: &mut [u64], book: &[u64], list: &mut [u64], pivot: u64, run: 
     let want = want_destroy(book, run, pivot, list.len() as u64);
     let got = release_into(s, list, pivot, run.seed);
     let kept = same(&s[..], &before);
-    let r = judge(run, 8, got, want, kept);
-    judge_pages(book, &list[..], want, r)
+    let r = judge(run, RELEASED, got, want, kept);
+    close(want, judge_pages(book, &list[..], want, r))
 }
 
 fn want_empty(r: State) -> Answer {
@@ -954,11 +960,7 @@ fn release_empty(s: &mut [u64], run: State) -> State {
     let want = want_empty(run);
     let got = of_destroy(destroy::destroy_empty(s));
     let kept = same(&s[..], &before);
-    let mut r = judge(run, 8, got, want, kept);
-    if want.no == 0 {
-        r.open = false;
-    }
-    r
+    close(want, judge(run, RELEASED, got, want, kept))
 }
 
 // The words of a release's list: some more than there are pages, or one less.
@@ -992,19 +994,24 @@ fn want_create(start: u64) -> Answer {
     done(0, 0, 0)
 }
 
+// An accepted create begins an empty ledger.
+fn begin(start: u64, answer: Answer, run: State) -> State {
+    let mut r = run;
+    if answer.no == 0 {
+        r.open = true;
+        r.start = start;
+        r.count = 0;
+    }
+    r
+}
+
 fn create_call(s: &mut [u64], start: u64, run: State) -> State {
     let mut before = [0u64; 456];
     copy(&s[..], &mut before);
     let want = want_create(start);
     let got = of_create(create::new(s, run.capacity, run.nodes, RowID(start)));
     let kept = same(&s[..], &before);
-    let mut r = judge(run, 0, got, want, kept);
-    if want.no == 0 {
-        r.open = true;
-        r.start = start;
-        r.count = 0;
-    }
-    r
+    begin(start, want, judge(run, CREATED, got, want, kept))
 }
 
 // The start of a new store, sometimes above the limit.
@@ -1084,19 +1091,13 @@ fn print_end() {
     io::write_all(STDOUT_FILENO, &end);
 }
 
-fn print_accepted(r: State) {
-    let mut i: usize = 0;
-    while i < 9 {
-        print(r.accepted[i]);
-        i += 1;
-    }
-    print_end();
-}
-
-fn print_refused(r: State) {
-    let mut i: usize = 3;
-    while i < 14 {
-        print(r.refused[i]);
+// The calls of the kinds from one number to another.
+fn print_calls(r: State, from: usize, to: usize) {
+    let mut i = from;
+    while i < to {
+        if i < 24 {
+            print(r.calls[i]);
+        }
         i += 1;
     }
 }
@@ -1105,10 +1106,11 @@ fn print_run(r: State) {
     let first = [b'C'];
     io::write_all(STDOUT_FILENO, &first);
     print(r.capacity);
-    print_accepted(r);
+    print_calls(r, 14, 23);
+    print_end();
     let second = [b'n', b'o'];
     io::write_all(STDOUT_FILENO, &second);
-    print_refused(r);
+    print_calls(r, 3, 14);
     print(r.sum);
     let wrong = [b' ', b'w', b'r', b'o', b'n', b'g'];
     io::write_all(STDOUT_FILENO, &wrong);
@@ -1124,8 +1126,7 @@ fn start_run(capacity: u64, nodes: u64, seed: u64) -> State {
         start: 0,
         count: 0,
         seed,
-        accepted: [0u64; 16],
-        refused: [0u64; 16],
+        calls: [0u64; 24],
         sum: 0,
         wrong: 0,
     }

@@ -1,13 +1,13 @@
 use borrow.Author.Needs.{needs}
 use Prim.Native.Nat.{_-_, _≤_}
-use Rattle.history_cases.proofs.print_accepted.Statement.{statement}
-use Rattle.history_cases.proofs.print_accepted.Tie as tie
+use Rattle.history_cases.proofs.print_calls.Statement.{statement}
+use Rattle.history_cases.proofs.print_calls.Tie as tie
 
 abbrev Inv-loop : tie.InvT-loop
-Inv-loop r i₀ i = 0 ≤ i
+Inv-loop from to r i₀ i = from ≤ i
 
 abbrev μ-loop : tie.MeasureT-loop
-μ-loop r i₀ i = 9 - i
+μ-loop from to r i₀ i = to - i
 
 loop-holds : tie.Need-loop-holds Inv-loop μ-loop
 loop-holds c = search needs
@@ -30,14 +30,11 @@ loop-less c = search needs
 loop-again : tie.Need-loop-again Inv-loop μ-loop
 loop-again c = search needs
 
-print-end-requires : tie.Need-print-end-requires Inv-loop μ-loop
-print-end-requires c κs = search needs
-
 returns : tie.Need-returns Inv-loop μ-loop
 returns c = search needs
 
-pub print-accepted-spec : {M : Type 1} → statement M
-print-accepted-spec =
+pub print-calls-spec : {M : Type 1} → statement M
+print-calls-spec =
     tie.close
     (tie.spec
     Inv-loop
@@ -49,5 +46,4 @@ print-accepted-spec =
     add-i
     loop-less
     loop-again
-    print-end-requires
     returns)
