@@ -22,8 +22,8 @@ use model::cursor::RowPageIndexMemCursor;
 use model::id::PageID;
 use model::id::RowID;
 
-// What the ledger holds beside its book, and what was seen: calls has the refused calls by number, and from 14 on the
-// accepted ones by kind.
+// What the ledger holds beside its book, and what was seen: last is the number of the last refusal or 0, calls has the
+// refused calls by number and from 14 on the accepted ones by kind.
 struct State {
     capacity: u64,
     nodes: u64,
@@ -31,6 +31,7 @@ struct State {
     start: u64,
     count: u64,
     seed: u64,
+    last: u64,
     calls: [u64; 24],
     sum: u64,
     wrong: u64,
@@ -394,19 +395,17 @@ fn is_same(x: Answer, y: Answer) -> bool {
     x.c == y.c
 }
 
-// An answer is counted, and compared with the ledger's; kept says whether the words are those from before the call.
-fn judge(run: State, kind: u64, got: Answer, want: Answer, kept: bool) -> State {
+// An answer is counted, and compared with the ledger's.
+fn judge(run: State, kind: u64, got: Answer, want: Answer) -> State {
     let mut r = run;
     r.sum = fold_answer(r.sum, got);
+    r.last = got.no;
     let equal = is_same(got, want);
     if !equal {
         r = add_wrong(r);
     }
     if got.no == 0 {
         return add_call(r, kind);
-    }
-    if !kept {
-        r = add_wrong(r);
     }
     add_call(r, got.no)
 }
@@ -459,12 +458,9 @@ fn add_range(book: &mut [u64], page: u64, answer: Answer, run: State) -> State {
 }
 
 fn append_call(s: &mut [u64], book: &mut [u64], rows: u64, page: u64, run: State) -> State {
-    let mut before = [0u64; 456];
-    copy(&s[..], &mut before);
     let want = want_insert(&book[..], run, rows);
     let got = of_insert(insert::insert_row_page(s, rows, PageID(page)));
-    let kept = same(&s[..], &before);
-    add_range(book, page, want, judge(run, APPENDED, got, want, kept))
+    add_range(book, page, want, judge(run, APPENDED, got, want))
 }
 
 // Mostly up to 20 rows; sometimes none, or more than there are.
@@ -518,7 +514,7 @@ fn lookup(s: &[u64], book: &[u64], r: State) -> State {
     if want.a == 0 {
         kind = NOT_FOUND;
     }
-    judge(r, kind, got, want, true)
+    judge(r, kind, got, want)
 }
 
 // The first refusal of a list of page ids for n ranges, or 0.
@@ -599,12 +595,9 @@ fn remove_ranges(book: &mut [u64], c: Cut, answer: Answer, run: State) -> State 
 }
 
 fn prune_call(s: &mut [u64], book: &mut [u64], ids: &[u64], c: Cut, run: State) -> State {
-    let mut before = [0u64; 456];
-    copy(&s[..], &mut before);
     let want = want_prune(&book[..], run, c, ids);
     let got = of_prune(prune::prune_checkpoint_prefix(s, RowID(c.start), RowID(c.end), ids));
-    let kept = same(&s[..], &before);
-    remove_ranges(book, c, want, judge(run, PRUNED, got, want, kept))
+    remove_ranges(book, c, want, judge(run, PRUNED, got, want))
 }
 
 // The page ids of the ledger.
@@ -770,7 +763,7 @@ fn judge_leaf(book: &[u64], list: &[u64], from: u64, got: Answer, run: State) ->
     if want.a == u64::MAX {
         kind = WALKED;
     }
-    let r = judge(run, kind, got, want, true);
+    let r = judge(run, kind, got, want);
     let told = has_records(book, list, run.start, from, want.c, run.seed);
     if !told {
         return add_wrong(r);
@@ -872,7 +865,7 @@ fn want_check(book: &[u64], r: State) -> Answer {
 fn check(s: &[u64], book: &[u64], r: State) -> State {
     let want = want_check(book, r);
     let got = of_check(full_check::full_check(s));
-    judge(r, CHECKED, got, want, true)
+    judge(r, CHECKED, got, want)
 }
 
 // Of a release with a list of so many words.
@@ -934,12 +927,9 @@ fn release_into(s: &mut [u64], list: &mut [u64], pivot: u64, x: u64) -> Answer {
 }
 
 fn release_call(s: &mut [u64], book: &[u64], list: &mut [u64], pivot: u64, run: State) -> State {
-    let mut before = [0u64; 456];
-    copy(&s[..], &mut before);
     let want = want_destroy(book, run, pivot, list.len() as u64);
     let got = release_into(s, list, pivot, run.seed);
-    let kept = same(&s[..], &before);
-    let r = judge(run, RELEASED, got, want, kept);
+    let r = judge(run, RELEASED, got, want);
     close(want, judge_pages(book, &list[..], want, r))
 }
 
@@ -955,12 +945,9 @@ fn want_empty(r: State) -> Answer {
 }
 
 fn release_empty(s: &mut [u64], run: State) -> State {
-    let mut before = [0u64; 456];
-    copy(&s[..], &mut before);
     let want = want_empty(run);
     let got = of_destroy(destroy::destroy_empty(s));
-    let kept = same(&s[..], &before);
-    close(want, judge(run, RELEASED, got, want, kept))
+    close(want, judge(run, RELEASED, got, want))
 }
 
 // The words of a release's list: some more than there are pages, or one less.
@@ -1006,12 +993,9 @@ fn begin(start: u64, answer: Answer, run: State) -> State {
 }
 
 fn create_call(s: &mut [u64], start: u64, run: State) -> State {
-    let mut before = [0u64; 456];
-    copy(&s[..], &mut before);
     let want = want_create(start);
     let got = of_create(create::new(s, run.capacity, run.nodes, RowID(start)));
-    let kept = same(&s[..], &before);
-    begin(start, want, judge(run, CREATED, got, want, kept))
+    begin(start, want, judge(run, CREATED, got, want))
 }
 
 // The start of a new store, sometimes above the limit.
@@ -1070,11 +1054,29 @@ fn call(s: &mut [u64], book: &mut [u64], r: State) -> State {
     create_call(s, start_of(r.seed), r)
 }
 
+// After a refused call the words must be those from before it.
+fn judge_words(r: State, kept: bool) -> State {
+    if kept {
+        return r;
+    }
+    if r.last == 0 {
+        return r;
+    }
+    add_wrong(r)
+}
+
+fn step(s: &mut [u64], book: &mut [u64], run: State) -> State {
+    let mut before = [0u64; 456];
+    copy(&s[..], &mut before);
+    let r = call(s, book, next_state(run));
+    judge_words(r, same(&s[..], &before))
+}
+
 fn history(s: &mut [u64], book: &mut [u64], calls: u64, run: State) -> State {
     let mut r = run;
     let mut more = calls;
     while 0 < more {
-        r = call(s, book, next_state(r));
+        r = step(s, book, r);
         more -= 1;
     }
     r
@@ -1126,6 +1128,7 @@ fn start_run(capacity: u64, nodes: u64, seed: u64) -> State {
         start: 0,
         count: 0,
         seed,
+        last: 0,
         calls: [0u64; 24],
         sum: 0,
         wrong: 0,

@@ -13,11 +13,8 @@ abbrev μ-loop : tie.MeasureT-loop
 loop-holds : tie.Need-loop-holds Inv-loop μ-loop
 loop-holds c = search needs
 
-next-state-requires : tie.Need-next-state-requires Inv-loop μ-loop
-next-state-requires c κs = search needs
-
-call-requires : tie.Need-call-requires Inv-loop μ-loop
-call-requires c κs = search needs
+step-requires : tie.Need-step-requires Inv-loop μ-loop
+step-requires c κs = search needs
 
 sub-more : tie.Need-sub-more Inv-loop μ-loop
 sub-more c = search needs
@@ -44,8 +41,7 @@ history-spec =
     Inv-loop
     μ-loop
     loop-holds
-    next-state-requires
-    call-requires
+    step-requires
     sub-more
     loop-less
     loop-again
