@@ -1,0 +1,49 @@
+use borrow.Author.Needs.{needs}
+use Prim.Native.Nat.{_-_, _≤_}
+use Rattle.history_cases.proofs.has_records.Statement.{statement}
+use Rattle.history_cases.proofs.has_records.Tie as tie
+
+abbrev Inv-loop : tie.InvT-loop
+Inv-loop book list start from count rest most i₀ i = 0 ≤ i
+
+abbrev μ-loop : tie.MeasureT-loop
+μ-loop book list start from count rest most i₀ i = most - i
+
+loop-holds : tie.Need-loop-holds Inv-loop μ-loop
+loop-holds c = search needs
+
+record-word-requires : tie.Need-record-word-requires Inv-loop μ-loop
+record-word-requires c κs = search needs
+
+at-requires : tie.Need-at-requires Inv-loop μ-loop
+at-requires c κs = search needs
+
+returns : tie.Need-returns Inv-loop μ-loop
+returns c = search needs
+
+add-i : tie.Need-add-i Inv-loop μ-loop
+add-i c = search needs
+
+loop-less : tie.Need-loop-less Inv-loop μ-loop
+loop-less c = search needs
+
+loop-again : tie.Need-loop-again Inv-loop μ-loop
+loop-again c = search needs
+
+returns-2 : tie.Need-returns-2 Inv-loop μ-loop
+returns-2 c = search needs
+
+pub has-records-spec : {M : Type 1} → statement M
+has-records-spec =
+    tie.close
+    (tie.spec
+    Inv-loop
+    μ-loop
+    loop-holds
+    record-word-requires
+    at-requires
+    returns
+    add-i
+    loop-less
+    loop-again
+    returns-2)
