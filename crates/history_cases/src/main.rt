@@ -124,21 +124,8 @@ fn refusal(no: u64, detail: u64) -> Answer {
 }
 
 fn told(r: Refusal) -> Answer {
-    match r {
-        Refusal::BadParameters => refusal(1, 0),
-        Refusal::Unsound(n) => refusal(2, n.0),
-        Refusal::Closed => refusal(3, 0),
-        Refusal::RowLimit => refusal(4, 0),
-        Refusal::NoRoom(needed) => refusal(5, needed),
-        Refusal::HeightLimit => refusal(6, 0),
-        Refusal::NoPrefix => refusal(7, 0),
-        Refusal::StartDiffers(row) => refusal(8, row.0),
-        Refusal::PageDiffers(place) => refusal(9, place),
-        Refusal::EndDiffers(place) => refusal(10, place),
-        Refusal::ListTooLong(held) => refusal(11, held),
-        Refusal::RowBelowPivot(row) => refusal(12, row.0),
-        Refusal::ListTooShort(wanted) => refusal(13, wanted),
-    }
+    let n = answers::number_of(r);
+    refusal(n.0, n.1)
 }
 
 fn of_create(answer: Created) -> Answer {

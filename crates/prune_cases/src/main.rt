@@ -9,7 +9,6 @@ use model::answer::Checked;
 use model::answer::Created;
 use model::answer::Inserted;
 use model::answer::Pruned;
-use model::answer::Refusal;
 use model::answer::RowLocation;
 use model::answer::RowPagePrefixPrune;
 use model::id::PageID;
@@ -173,36 +172,16 @@ fn same(a: &[u64], b: &[u64]) -> bool {
     true
 }
 
-fn number(r: Refusal) -> u64 {
-    match r {
-        Refusal::NoPrefix => 7,
-        Refusal::StartDiffers(_) => 8,
-        Refusal::PageDiffers(_) => 9,
-        Refusal::EndDiffers(_) => 10,
-        Refusal::ListTooLong(_) => 11,
-        _ => 0,
-    }
-}
-
-fn detail(r: Refusal) -> u64 {
-    match r {
-        Refusal::StartDiffers(row) => row.0,
-        Refusal::PageDiffers(place) => place,
-        Refusal::EndDiffers(place) => place,
-        Refusal::ListTooLong(held) => held,
-        _ => 0,
-    }
-}
-
 // Whether a prune was refused with this number and detail.
 fn is_refused(answer: Pruned, no: u64, with: u64) -> bool {
     match answer {
         Pruned::Done(_) => false,
         Pruned::Refused(r) => {
-            if number(r) != no {
+            let n = answers::number_of(r);
+            if n.0 != no {
                 return false;
             }
-            detail(r) == with
+            n.1 == with
         }
     }
 }

@@ -15,38 +15,6 @@ use model::cursor::RowPageIndexMemCursor;
 use model::id::PageID;
 use model::id::RowID;
 
-fn number(r: Refusal) -> u64 {
-    match r {
-        Refusal::BadParameters => 1,
-        Refusal::Unsound(_) => 2,
-        Refusal::Closed => 3,
-        Refusal::RowLimit => 4,
-        Refusal::NoRoom(_) => 5,
-        Refusal::HeightLimit => 6,
-        Refusal::NoPrefix => 7,
-        Refusal::StartDiffers(_) => 8,
-        Refusal::PageDiffers(_) => 9,
-        Refusal::EndDiffers(_) => 10,
-        Refusal::ListTooLong(_) => 11,
-        Refusal::RowBelowPivot(_) => 12,
-        Refusal::ListTooShort(_) => 13,
-    }
-}
-
-fn detail(r: Refusal) -> u64 {
-    match r {
-        Refusal::Unsound(n) => n.0,
-        Refusal::NoRoom(needed) => needed,
-        Refusal::StartDiffers(row) => row.0,
-        Refusal::PageDiffers(place) => place,
-        Refusal::EndDiffers(place) => place,
-        Refusal::ListTooLong(held) => held,
-        Refusal::RowBelowPivot(row) => row.0,
-        Refusal::ListTooShort(wanted) => wanted,
-        _ => 0,
-    }
-}
-
 fn print_space() {
     let space = [b' '];
     io::write_all(STDOUT_FILENO, &space);
@@ -65,9 +33,10 @@ fn print_line(a: u64, b: u64, c: u64) {
 fn print_refusal(r: Refusal) {
     let no = [b'n', b'o', b' '];
     io::write_all(STDOUT_FILENO, &no);
-    io::print_decimal(STDOUT_FILENO, number(r));
+    let n = answers::number_of(r);
+    io::print_decimal(STDOUT_FILENO, n.0);
     print_space();
-    io::print_decimal(STDOUT_FILENO, detail(r));
+    io::print_decimal(STDOUT_FILENO, n.1);
     let end = [b'\n'];
     io::write_all(STDOUT_FILENO, &end);
 }
