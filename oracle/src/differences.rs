@@ -30,8 +30,8 @@ struct Point<'a> {
 }
 
 impl Point<'_> {
+    /// Demands it of the smallest input, or of a smaller one.
     fn holds<T: PartialEq + Debug>(&mut self, what: &str, found: T, wanted: T) {
-        self.tally.difference(self.difference);
         if found != wanted {
             let d = self.difference as u8;
             self.tally.unlisted.push(format!("difference {d}, smallest input: {what} {found:?}, listed {wanted:?}"));
@@ -40,13 +40,19 @@ impl Point<'_> {
 }
 
 pub fn smallest(tally: &mut Tally) {
-    walk_stops(Point { tally, difference: Difference::WalkStops });
-    lost_nodes(Point { tally, difference: Difference::LostNodes });
-    no_rows(Point { tally, difference: Difference::NoRows });
-    rows_above(Point { tally, difference: Difference::RowsAbove });
-    free_order(Point { tally, difference: Difference::FreeOrder });
-    assertion(Point { tally, difference: Difference::Assertion });
-    seek_none(Point { tally, difference: Difference::SeekNone });
+    let points: [(Difference, fn(Point)); 7] = [
+        (Difference::WalkStops, walk_stops),
+        (Difference::LostNodes, lost_nodes),
+        (Difference::NoRows, no_rows),
+        (Difference::RowsAbove, rows_above),
+        (Difference::FreeOrder, free_order),
+        (Difference::Assertion, assertion),
+        (Difference::SeekNone, seek_none),
+    ];
+    for (difference, check) in points {
+        check(Point { tally, difference });
+        tally.difference(difference);
+    }
 }
 
 /// Nine appends; walk from 0. No sequence of fewer calls has it.

@@ -1,5 +1,5 @@
-//! Compares the listed Rust with the port: `harness` runs the whole comparison, `harness record FOLDER` writes a sample of
-//! the Rust's answers as a script's input and listing.
+//! Compares the listed Rust with the port: `harness` runs the whole comparison, `harness C...` that at these capacities, and
+//! `harness record FOLDER` writes a sample of the Rust's answers as a script's input and listing.
 // The calls of a pair compare what they give.
 #![allow(unused_must_use)]
 mod differences;
@@ -26,31 +26,36 @@ pub fn listed_at(capacity: u64) -> Create {
     listed::ALL.iter().find(|l| l.0 == capacity).expect("a capacity that the oracle was built for").1
 }
 
-fn compare() -> bool {
+/// Sequences at the small capacities, then fills and random sequences at each one that is wanted.
+fn compare(wanted: impl Fn(u64) -> bool) -> bool {
     let mut tally = Tally::default();
     let time = Instant::now();
     let say = |text: &str| eprintln!("{:6.1} s  {text}", time.elapsed().as_secs_f64());
     differences::smallest(&mut tally);
     probe::creates(&mut tally);
     say("smallest inputs of the listed differences");
-    for capacity in 2..=5 {
+    for capacity in (2..=5).filter(|c| wanted(*c)) {
         let create = listed_at(capacity);
-        let found = exhaustive::outlines(&mut tally, create, capacity, [0, 0, 18, 20, 24, 27][capacity as usize]);
+        let found = exhaustive::outlines(&mut tally, create, capacity, [0, 0, 32, 36, 40, 46][capacity as usize]);
         say(&format!("C = {capacity}: all {found} outlines"));
-        exhaustive::sequences(&mut tally, create, capacity, 60, 12);
+        exhaustive::sequences(&mut tally, create, capacity, 60, 14);
         for nodes in 1..=9 {
             exhaustive::sequences(&mut tally, create, capacity, nodes, 9);
         }
         say(&format!("C = {capacity}: all sequences"));
     }
-    for (capacity, create) in listed::ALL {
+    for (capacity, create) in listed::ALL.into_iter().filter(|l| wanted(l.0)) {
         let length = match capacity {
             4094 => 2 * capacity + 2,
-            _ => (capacity * capacity + 2 * capacity + 2).max(300),
+            2..=10 => (capacity.pow(3) + 2 * capacity + 2).max(300),
+            _ => capacity.pow(2) + 2 * capacity + 2,
         };
         random::fills(&mut tally, create, capacity, length);
-        for seed in 0..if capacity == 4094 { 6 } else { 12 } {
-            random::run(&mut tally, create, capacity, seed, if capacity < 6 { 2000 } else { 200 });
+        for seed in 0..if capacity == 4094 { 8 } else { 20 } {
+            random::run(&mut tally, create, capacity, seed, if capacity < 6 { 2000 } else { 300 });
+        }
+        if capacity % 10 == 0 {
+            say(&format!("C up to {capacity}: fills and random sequences"));
         }
     }
     say("fills and random sequences at every C");
@@ -67,9 +72,9 @@ fn main() -> ExitCode {
     }));
     let args: Vec<String> = std::env::args().skip(1).collect();
     let good = match &args.iter().map(String::as_str).collect::<Vec<_>>()[..] {
-        [] => compare(),
+        [] => compare(|_| true),
         ["record", folder] => record::write(folder.as_ref()),
-        _ => false,
+        numbers => compare(|c| numbers.contains(&c.to_string().as_str())),
     };
     if good { ExitCode::SUCCESS } else { ExitCode::FAILURE }
 }

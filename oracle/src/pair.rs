@@ -211,6 +211,7 @@ impl Pair {
             Ok([removed, freed, levels]) => {
                 self.same(tally, &call, ours, Ok(Pruned { removed, freed, levels }));
                 self.same(tally, &call, taken - self.rust.taken(), freed);
+                self.freed_by_prune(tally, &call, before, freed);
                 self.entries.drain(..removed as usize);
                 self.start = end;
                 self.log.push(call);
@@ -221,6 +222,20 @@ impl Pair {
             }
         }
         ours
+    }
+
+    /// Difference 5: as many nodes of each height, in any order. The chain begins with the last one freed.
+    fn freed_by_prune(&mut self, tally: &mut Tally, call: &Call, before: Option<Vec<u64>>, freed: u64) {
+        let mut rust: Vec<u64> = self.rust.freed().iter().map(|f| f.height).collect();
+        let Some(before) = before else { return };
+        let chain = shape::chain(&self.ours.words, freed as usize);
+        let mut ours: Vec<u64> = chain.iter().rev().map(|n| shape::height(&before, *n)).collect();
+        if ours != rust {
+            tally.difference(Difference::FreeOrder);
+            ours.sort();
+            rust.sort();
+        }
+        self.same(tally, call, ours, rust);
     }
 
     pub fn prune_first(&mut self, tally: &mut Tally, count: usize) {

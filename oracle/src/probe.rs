@@ -3,7 +3,7 @@
 use crate::pair::{LIMIT, Pair};
 use crate::shape::NONE;
 use crate::store::{Cursor, Refusal, Store};
-use crate::tally::{Difference, Kind, Tally};
+use crate::tally::{Difference, Kind, OTHER, Tally};
 
 /// Rows at and around these entries, the start, the end and the limits.
 fn rows(pair: &Pair, places: &[usize]) -> Vec<u64> {
@@ -161,7 +161,7 @@ fn appends(tally: &mut Tally, pair: &mut Pair) {
 /// Difference 7: create's refusals 1. The Rust has its capacity at build time and a pool of its own.
 pub fn creates(tally: &mut Tally) {
     let one = |tally: &mut Tally, length: u64, c: u64, p: u64, start: u64, number: u64| {
-        tally.call(c, Kind::Create);
+        tally.call(if (2..=4094).contains(&c) { c } else { OTHER }, Kind::Create);
         let mut store = Store { words: vec![5; length as usize] };
         let before = store.clone();
         if store.create(c, p, start) != Err(Refusal { number, detail: 0 }) || store != before {

@@ -112,13 +112,12 @@ fn step(tally: &mut Tally, pair: &mut Pair, r: &mut Random) {
         }
         _ => {
             let burst = match r.below(12) {
-                0 => capacity * capacity / 2,
+                0 => (capacity * capacity / 2).min(6000),
                 1..4 => capacity,
                 _ => 1 + r.below(4),
             };
-            for _ in 0..burst.min(6000) {
-                pair.append(tally, 1 + r.below(100), r.word() >> r.below(60));
-            }
+            // A refused append is refused again until something is pruned.
+            (0..burst).all(|_| pair.append(tally, 1 + r.below(100), r.word() >> r.below(60)).is_ok());
         }
     }
 }
@@ -142,6 +141,10 @@ pub fn run(tally: &mut Tally, create: Create, capacity: u64, seed: u64, steps: u
         step(tally, &mut pair, &mut r);
         pair.compare_shape(tally);
         pair.check(tally);
+        if r.below(40) == 0 && !pair.entries.is_empty() {
+            let places: Vec<usize> = (0..4).map(|_| r.below(pair.entries.len() as u64) as usize).collect();
+            probe::at(tally, &mut pair, &places);
+        }
     }
     pair.release(tally, 0);
 }

@@ -40,6 +40,11 @@ fn after_children(words: &[u64], number: u64, out: &mut Vec<[u64; 3]>) {
     out.push([number, words[at], words[at + 2]]);
 }
 
+/// The first word of a node.
+pub fn height(words: &[u64], number: u64) -> u64 {
+    words[8 + number as usize * (4 + 2 * words[0] as usize)]
+}
+
 /// The first so many numbers of a store's free chain.
 pub fn chain(words: &[u64], count: usize) -> Vec<u64> {
     let mut out = Vec::new();

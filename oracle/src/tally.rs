@@ -40,6 +40,9 @@ pub const DIFFERENCES: [(Difference, &str); 8] = [
     (Difference::SeekNone, "a seek to NONE: a debug assertion of the Rust"),
 ];
 
+/// Counted for a create whose capacity is out of range.
+pub const OTHER: u64 = 0;
+
 #[derive(Default)]
 pub struct Tally {
     pub calls: BTreeMap<u64, BTreeMap<Kind, u64>>,
@@ -63,7 +66,7 @@ impl Tally {
         println!();
         let mut sums = [0; KINDS.len()];
         for (c, counts) in &self.calls {
-            print!("{c:>8}");
+            print!("{:>8}", if *c == OTHER { "other".into() } else { c.to_string() });
             for (k, sum) in KINDS.iter().zip(&mut sums) {
                 let n = counts.get(k).copied().unwrap_or(0);
                 *sum += n;
