@@ -34,7 +34,7 @@ impl Point<'_> {
     fn holds<T: PartialEq + Debug>(&mut self, what: &str, found: T, wanted: T) {
         if found != wanted {
             let d = self.difference as u8;
-            self.tally.unlisted.push(format!("difference {d}, smallest input: {what} {found:?}, listed {wanted:?}"));
+            self.tally.unlisted(format!("difference {d}, smallest input: {what} {found:?}, listed {wanted:?}"));
         }
     }
 }

@@ -71,7 +71,7 @@ impl Pair {
     }
 
     fn unlisted(&self, tally: &mut Tally, call: &Call, text: String) {
-        tally.unlisted.push(format!("{:?} then {call:?}: {text}", self.log));
+        tally.unlisted(format!("{:?} then {call:?}: {text}", self.log));
     }
 
     /// Demands that the two are equal.
@@ -86,8 +86,9 @@ impl Pair {
         (self.ours.words.len() < 40_000).then(|| self.ours.words.clone())
     }
 
-    fn unchanged(&self, tally: &mut Tally, call: &Call, before: Option<Vec<u64>>) {
-        if before.is_some_and(|b| b != self.ours.words) {
+    /// A refusal has changed nothing. What the port should have refused is told by the comparison of the answers.
+    fn unchanged<T>(&self, tally: &mut Tally, call: &Call, ours: &Result<T, Refusal>, before: Option<Vec<u64>>) {
+        if ours.is_err() && before.is_some_and(|b| b != self.ours.words) {
             self.unlisted(tally, call, "the port refused and changed words".into());
         }
     }
@@ -106,7 +107,7 @@ impl Pair {
         let end = self.end as u128 + count as u128;
         if count == 0 || end > LIMIT as u128 {
             self.same(tally, &call, ours, Err(refusal(4, 0)));
-            self.unchanged(tally, &call, before);
+            self.unchanged(tally, &call, &ours, before);
             self.append_beyond(tally, &call, count, page);
             return ours;
         }
@@ -120,7 +121,7 @@ impl Pair {
                 self.log.push(call);
             }
             Err(Failure::Error(t)) if t.contains("BufferPageAllocation") => {
-                self.unchanged(tally, &call, before);
+                self.unchanged(tally, &call, &ours, before);
                 self.no_room(tally, &call, ours, taken);
             }
             Err(f) => self.unlisted(tally, &call, format!("port {ours:?}, Rust {f:?}")),
@@ -217,7 +218,7 @@ impl Pair {
                 self.log.push(call);
             }
             Err(f) => {
-                self.unchanged(tally, &call, before);
+                self.unchanged(tally, &call, &ours, before);
                 self.refused(tally, &call, ours.err(), f, ids.len());
             }
         }
@@ -241,7 +242,9 @@ impl Pair {
     pub fn prune_first(&mut self, tally: &mut Tally, count: usize) {
         let (end, ids) = self.prefix(count);
         let answer = self.prune(tally, self.start, end, &ids);
-        assert!(answer.is_ok(), "a prune of the first entries is accepted: {answer:?}");
+        if answer.is_err() {
+            self.unlisted(tally, &Call::Prune(self.start, end, ids), format!("a prefix is refused: {answer:?}"));
+        }
     }
 
     /// The port's leaves from a row, or of a cursor never sought.
@@ -310,7 +313,7 @@ impl Pair {
                 self.freed_in_order(tally, &call, &order);
             }
             Err(f) => {
-                self.unchanged(tally, &call, before);
+                self.unchanged(tally, &call, &ours, before);
                 self.same(tally, &call, pages.iter().all(|p| *p == 7), true);
                 self.refused(tally, &call, ours.err(), f, 0);
             }
@@ -340,7 +343,7 @@ impl Pair {
                 self.same(tally, &call, ours, Ok(wanted));
             }
             Err(f) => {
-                self.unchanged(tally, &call, before);
+                self.unchanged(tally, &call, &ours, before);
                 self.refused(tally, &call, ours.err(), f, 0);
             }
         }

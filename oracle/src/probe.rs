@@ -116,7 +116,7 @@ fn closed(tally: &mut Tally, pair: Pair) {
         store.check().err(),
     ];
     if answers != [Some(wanted); 7] || store != before {
-        tally.unlisted.push(format!("on a closed store: {answers:?}"));
+        tally.unlisted(format!("on a closed store: {answers:?}"));
     }
     tally.difference(Difference::Added);
 }
@@ -136,7 +136,7 @@ fn short_lists(tally: &mut Tally, pair: &Pair) {
         good &= store.destroy(0, &mut vec![0; entries]).is_ok();
     }
     if !good {
-        tally.unlisted.push(format!("short lists at C = {capacity}, {entries} entries"));
+        tally.unlisted(format!("short lists at C = {capacity}, {entries} entries"));
     }
     tally.difference(Difference::Added);
 }
@@ -165,7 +165,7 @@ pub fn creates(tally: &mut Tally) {
         let mut store = Store { words: vec![5; length as usize] };
         let before = store.clone();
         if store.create(c, p, start) != Err(Refusal { number, detail: 0 }) || store != before {
-            tally.unlisted.push(format!("create of C {c}, P {p}, start {start} in {length} words"));
+            tally.unlisted(format!("create of C {c}, P {p}, start {start} in {length} words"));
         }
         tally.difference(if number == 1 { Difference::Added } else { Difference::RowsAbove });
     };

@@ -47,7 +47,9 @@ pub const OTHER: u64 = 0;
 pub struct Tally {
     pub calls: BTreeMap<u64, BTreeMap<Kind, u64>>,
     pub met: BTreeMap<Difference, u64>,
-    pub unlisted: Vec<String>,
+    /// How many, and the shortest of them.
+    unlisted: u64,
+    shortest: Vec<String>,
 }
 
 impl Tally {
@@ -57,6 +59,13 @@ impl Tally {
 
     pub fn difference(&mut self, d: Difference) {
         *self.met.entry(d).or_default() += 1;
+    }
+
+    pub fn unlisted(&mut self, text: String) {
+        self.unlisted += 1;
+        self.shortest.push(text);
+        self.shortest.sort_by_key(String::len);
+        self.shortest.truncate(5);
     }
 
     /// Calls of each kind at each capacity, then the differences. True where none is unlisted.
@@ -80,10 +89,8 @@ impl Tally {
         for (d, text) in DIFFERENCES {
             println!("difference {}: met {} times ({text})", d as u8, self.met.get(&d).copied().unwrap_or(0));
         }
-        let mut unlisted: Vec<&String> = self.unlisted.iter().collect();
-        unlisted.sort_by_key(|t| t.len());
-        unlisted.iter().take(5).for_each(|t| println!("UNLISTED: {t}"));
-        println!("{} unlisted differences", unlisted.len());
-        unlisted.is_empty()
+        self.shortest.iter().for_each(|t| println!("unlisted: {t}"));
+        println!("{} unlisted differences", self.unlisted);
+        self.unlisted == 0
     }
 }
