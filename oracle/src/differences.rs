@@ -138,7 +138,8 @@ fn assertion(mut point: Point) {
     point.holds("Rust", rust.prune(0, 1, &[]).err(), panics("checkpoint row-page prefix has no page ids"));
     point.holds("port", ours.prune(0, 1, &[]).err(), Some(refusal(7, 0)));
     let (mut rust, mut ours) = appended(1, UNLIMITED);
-    let mismatch = "assertion `left == right` failed: checkpoint row-page prefix end mismatch\n  left: RowID(10)\n right: RowID(20)";
+    let mismatch =
+        "assertion `left == right` failed: checkpoint row-page prefix end mismatch\n  left: RowID(10)\n right: RowID(20)";
     point.holds("Rust", rust.prune(0, 20, &[1]).err(), panics(mismatch));
     point.holds("port", ours.prune(0, 20, &[1]).err(), Some(refusal(10, 1)));
 }

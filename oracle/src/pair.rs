@@ -88,6 +88,7 @@ impl Pair {
 
     /// A refusal has changed nothing. What the port should have refused is told by the comparison of the answers.
     fn unchanged<T>(&self, tally: &mut Tally, call: &Call, ours: &Result<T, Refusal>, before: Option<Vec<u64>>) {
+        ours.as_ref().err().map(|r| tally.refusal(r.number));
         if ours.is_err() && before.is_some_and(|b| b != self.ours.words) {
             self.unlisted(tally, call, "the port refused and changed words".into());
         }

@@ -118,6 +118,7 @@ fn closed(tally: &mut Tally, pair: Pair) {
     if answers != [Some(wanted); 7] || store != before {
         tally.unlisted(format!("on a closed store: {answers:?}"));
     }
+    answers.iter().for_each(|_| tally.refusal(3));
     tally.difference(Difference::Added);
 }
 
@@ -128,12 +129,14 @@ fn short_lists(tally: &mut Tally, pair: &Pair) {
     cursor.seek(0);
     let kept = cursor;
     let next = pair.ours.next(&mut cursor, &mut vec![0; 2 * capacity as usize - 1]).err();
+    tally.refusal(13);
     let mut good = next == Some(Refusal { number: 13, detail: capacity }) && cursor == kept;
     if entries > 0 {
         let mut store = pair.ours.clone();
         let short = store.destroy(0, &mut vec![0; entries - 1]).err();
         good &= short == Some(Refusal { number: 13, detail: entries as u64 }) && store == pair.ours;
         good &= store.destroy(0, &mut vec![0; entries]).is_ok();
+        tally.refusal(13);
     }
     if !good {
         tally.unlisted(format!("short lists at C = {capacity}, {entries} entries"));
@@ -167,6 +170,7 @@ pub fn creates(tally: &mut Tally) {
         if store.create(c, p, start) != Err(Refusal { number, detail: 0 }) || store != before {
             tally.unlisted(format!("create of C {c}, P {p}, start {start} in {length} words"));
         }
+        tally.refusal(number);
         tally.difference(if number == 1 { Difference::Added } else { Difference::RowsAbove });
     };
     for c in [0, 1, 4095, NONE] {

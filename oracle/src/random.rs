@@ -45,11 +45,18 @@ pub fn fills(tally: &mut Tally, create: Create, capacity: u64, length: u64) {
         pair.append(tally, 1 + n % 5, n * 3);
         if around_fill(capacity, n) {
             pair.compare_shape(tally);
-            let mut places: Vec<usize> =
-                (1..=n).filter(|k| around_fill(capacity, *k) || around_fill(capacity, n - k)).map(|k| k as usize - 1).collect();
+            let mut places: Vec<usize> = (1..=n)
+                .filter(|k| around_fill(capacity, *k) || around_fill(capacity, n - k))
+                .map(|k| k as usize - 1)
+                .collect();
             if places.len() > 24 {
                 let step = places.len() / 12;
-                places = places.iter().enumerate().filter(|(i, _)| i % step < 2 || i + 6 > places.len()).map(|(_, p)| *p).collect();
+                places = places
+                    .iter()
+                    .enumerate()
+                    .filter(|(i, _)| i % step < 2 || i + 6 > places.len())
+                    .map(|(_, p)| *p)
+                    .collect();
             }
             probe::at(tally, &mut pair, &places);
         }

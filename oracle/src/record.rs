@@ -65,9 +65,9 @@ impl Recorder {
             (Call::Find(row), Some(pair)) => {
                 lines(pair.find(tally, *row), |p| p.map_or("none\n".into(), |p| format!("page {p}\n")))
             }
-            (Call::Prune(start, end, ids), Some(pair)) => lines(pair.prune(tally, *start, *end, ids), |p| {
-                format!("prune {} {} {}\n", p.removed, p.freed, p.levels)
-            }),
+            (Call::Prune(start, end, ids), Some(pair)) => {
+                lines(pair.prune(tally, *start, *end, ids), |p| format!("prune {} {} {}\n", p.removed, p.freed, p.levels))
+            }
             (Call::Walk(row), Some(pair)) => lines(pair.walk(tally, *row), |leaves| {
                 let mut text = String::new();
                 for l in leaves {

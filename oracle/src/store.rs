@@ -21,7 +21,13 @@ mod library {
             answer: *mut u64,
             answer_len: usize,
         ) -> u64;
-        pub fn row_page_index_find(words: *const u64, words_len: usize, row: u64, answer: *mut u64, answer_len: usize) -> u64;
+        pub fn row_page_index_find(
+            words: *const u64,
+            words_len: usize,
+            row: u64,
+            answer: *mut u64,
+            answer_len: usize,
+        ) -> u64;
         pub fn row_page_index_prune(
             words: *mut u64,
             words_len: usize,

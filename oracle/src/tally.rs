@@ -47,6 +47,8 @@ pub const OTHER: u64 = 0;
 pub struct Tally {
     pub calls: BTreeMap<u64, BTreeMap<Kind, u64>>,
     pub met: BTreeMap<Difference, u64>,
+    /// The port's refusals that were compared, by number.
+    refusals: BTreeMap<u64, u64>,
     /// How many, and the shortest of them.
     unlisted: u64,
     shortest: Vec<String>,
@@ -59,6 +61,10 @@ impl Tally {
 
     pub fn difference(&mut self, d: Difference) {
         *self.met.entry(d).or_default() += 1;
+    }
+
+    pub fn refusal(&mut self, number: u64) {
+        *self.refusals.entry(number).or_default() += 1;
     }
 
     pub fn unlisted(&mut self, text: String) {
@@ -86,6 +92,9 @@ impl Tally {
         print!("{:>8}", "all");
         sums.iter().for_each(|n| print!("{n:>10}"));
         println!("\n{} calls compared", sums.iter().sum::<u64>());
+        print!("refusals by number:");
+        self.refusals.iter().for_each(|(number, n)| print!(" {number}: {n}"));
+        println!();
         for (d, text) in DIFFERENCES {
             println!("difference {}: met {} times ({text})", d as u8, self.met.get(&d).copied().unwrap_or(0));
         }

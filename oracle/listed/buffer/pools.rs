@@ -32,7 +32,12 @@ impl Slot {
         assert!(!page.is_null());
         Box::new(Slot {
             latch: Latch::default(),
-            frame: UnsafeCell::new(BufferFrame { page_id: PageID::new(id), page: page.cast(), generation: 0, vmap: RowVersionMap }),
+            frame: UnsafeCell::new(BufferFrame {
+                page_id: PageID::new(id),
+                page: page.cast(),
+                generation: 0,
+                vmap: RowVersionMap,
+            }),
             taken: Cell::new(false),
         })
     }
@@ -121,7 +126,12 @@ impl FixedBufferPool {
         Ok(self.slot(PageID::new(id)))
     }
     #[inline]
-    pub(crate) async fn must_get_page<T: BufferPage>(&self, guard: &PoolGuard, id: PageID, _: LatchFallbackMode) -> FacadePageGuard<T> {
+    pub(crate) async fn must_get_page<T: BufferPage>(
+        &self,
+        guard: &PoolGuard,
+        id: PageID,
+        _: LatchFallbackMode,
+    ) -> FacadePageGuard<T> {
         let s = self.slot(id);
         s.facade(guard, RawHybridGuard::optimistic(&s.latch))
     }
@@ -151,10 +161,17 @@ impl BufferPool for FixedBufferPool {
         PoolGuard::new(PoolRole::Meta, SyncQuiescentGuard(PhantomData))
     }
     #[inline]
-    fn allocate_page<T: BufferPage>(&self, guard: &PoolGuard) -> impl Future<Output = Result<PageExclusiveGuard<T>, Err>> + Send {
+    fn allocate_page<T: BufferPage>(
+        &self,
+        guard: &PoolGuard,
+    ) -> impl Future<Output = Result<PageExclusiveGuard<T>, Err>> + Send {
         ready(self.take().map(|s| s.facade(guard, RawHybridGuard::exclusive(&s.latch)).must_exclusive()))
     }
-    fn allocate_page_at<T: BufferPage>(&self, _: &PoolGuard, _: PageID) -> impl Future<Output = Result<PageExclusiveGuard<T>, Err>> + Send {
+    fn allocate_page_at<T: BufferPage>(
+        &self,
+        _: &PoolGuard,
+        _: PageID,
+    ) -> impl Future<Output = Result<PageExclusiveGuard<T>, Err>> + Send {
         async { unimplemented!() }
     }
     fn get_page<T: BufferPage>(
@@ -173,7 +190,11 @@ impl BufferPool for FixedBufferPool {
     ) -> impl Future<Output = Result<Option<FacadePageGuard<T>>, Err>> + Send {
         async { unimplemented!() }
     }
-    fn get_row_version_map(&self, _: &PoolGuard, _: VersionedPageID) -> impl Future<Output = Option<RowVersionMapGuard>> + Send {
+    fn get_row_version_map(
+        &self,
+        _: &PoolGuard,
+        _: VersionedPageID,
+    ) -> impl Future<Output = Option<RowVersionMapGuard>> + Send {
         ready(None)
     }
     fn deallocate_page<T: BufferPage>(&self, mut g: PageExclusiveGuard<T>) {
@@ -228,11 +249,18 @@ impl BufferPool for RowPool {
     fn create_base_guard(&self) -> PoolGuard {
         PoolGuard::new(PoolRole::Mem, SyncQuiescentGuard(PhantomData))
     }
-    fn allocate_page<T: BufferPage>(&self, _: &PoolGuard) -> impl Future<Output = Result<PageExclusiveGuard<T>, Err>> + Send {
+    fn allocate_page<T: BufferPage>(
+        &self,
+        _: &PoolGuard,
+    ) -> impl Future<Output = Result<PageExclusiveGuard<T>, Err>> + Send {
         async { unimplemented!() }
     }
     #[inline]
-    fn allocate_page_at<T: BufferPage>(&self, guard: &PoolGuard, id: PageID) -> impl Future<Output = Result<PageExclusiveGuard<T>, Err>> + Send {
+    fn allocate_page_at<T: BufferPage>(
+        &self,
+        guard: &PoolGuard,
+        id: PageID,
+    ) -> impl Future<Output = Result<PageExclusiveGuard<T>, Err>> + Send {
         ready(Ok(self.at(guard, id, true).must_exclusive()))
     }
     fn get_page<T: BufferPage>(
@@ -251,7 +279,11 @@ impl BufferPool for RowPool {
     ) -> impl Future<Output = Result<Option<FacadePageGuard<T>>, Err>> + Send {
         async { unimplemented!() }
     }
-    fn get_row_version_map(&self, _: &PoolGuard, _: VersionedPageID) -> impl Future<Output = Option<RowVersionMapGuard>> + Send {
+    fn get_row_version_map(
+        &self,
+        _: &PoolGuard,
+        _: VersionedPageID,
+    ) -> impl Future<Output = Option<RowVersionMapGuard>> + Send {
         ready(None)
     }
     fn deallocate_page<T: BufferPage>(&self, g: PageExclusiveGuard<T>) {
