@@ -86,6 +86,17 @@ fn lost_nodes(mut point: Point) {
     point.holds("port", ours.append(10, 3).err(), Some(refusal(5, 2)));
     point.holds("the port's words", &ours, &before.1);
     point.holds("the port's counts", ours.check(), Ok(Checked { entries: 2, nodes: 1, free: 1 }));
+    lost_later(point);
+}
+
+/// A pool of 10 nodes, nine appends, prune 0 to 20, an append: 4 nodes are needed and free, but the Rust lost 3.
+fn lost_later(mut point: Point) {
+    let (mut rust, mut ours) = appended(8, 10);
+    point.holds("port, ninth append", ours.append(10, 9).err(), Some(refusal(5, 4)));
+    point.holds("Rust, ninth append", rust.append(10, 9).is_err(), true);
+    point.holds("prune", (rust.prune(0, 20, &[1, 2]).is_ok(), ours.prune(0, 20, &[1, 2]).is_ok()), (true, true));
+    point.holds("port, later append", ours.append(10, 9), Ok(Appended { start: 80, end: 90, taken: 4 }));
+    point.holds("Rust, later append", rust.append(10, 9).is_err(), true);
 }
 
 /// An append of 0 rows to an empty store.
