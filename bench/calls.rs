@@ -9,7 +9,7 @@ mod store;
 use std::hint::black_box;
 use std::time::Instant;
 
-/// The C functions of crates/host. A slice is a pointer and then a length; an answer is five words: 0, how many values, the
+/// The C functions of crates/host, and `next` by crates/bench_host, with no cursor in words. A slice is a pointer and then a length; an answer is five words: 0, how many values, the
 /// values; or a refusal's number.
 mod rattle {
     unsafe extern "C" {
@@ -17,9 +17,7 @@ mod rattle {
         fn row_page_index_append(w: *mut u64, len: usize, count: u64, page: u64, a: *mut u64, n: usize) -> u64;
         fn row_page_index_find(w: *const u64, len: usize, row: u64, a: *mut u64, n: usize) -> u64;
         fn row_page_index_check(w: *const u64, len: usize, a: *mut u64, n: usize) -> u64;
-        fn row_page_index_next(
-            w: *const u64, len: usize, cursor: *mut u64, two: usize, list: *mut u64, list_len: usize, a: *mut u64, n: usize,
-        ) -> u64;
+        fn bench_next(w: *const u64, len: usize, row: u64, list: *mut u64, list_len: usize) -> u64;
         fn row_page_index_prune(
             w: *mut u64, len: usize, start: u64, end: u64, ids: *const u64, ids_len: usize, a: *mut u64, n: usize,
         ) -> u64;
@@ -56,11 +54,7 @@ mod rattle {
 
     /// The end of the leaf.
     pub fn next(w: &[u64], row: u64, list: &mut [u64]) -> u64 {
-        let (mut cursor, mut a) = ([row, 0], [0; 5]);
-        unsafe {
-            row_page_index_next(w.as_ptr(), w.len(), cursor.as_mut_ptr(), 2, list.as_mut_ptr(), list.len(), a.as_mut_ptr(), 5)
-        };
-        a[3]
+        unsafe { bench_next(w.as_ptr(), w.len(), row, list.as_mut_ptr(), list.len()) }
     }
 
     /// The nodes freed.

@@ -1,11 +1,13 @@
 -- What the benchmark's functions answer, as numbers.
 use Prim.Native.Nat.{ℕ, _-_}
-use mathlib.Core.List.{List}
+use mathlib.Core.List.{List, [], _∷_}
 use mathlib.Core.Bool.{not}
 use lib.Dec.{leb, eqb}
 use Rattle.model.specs.Words.{pick, NONE}
 use Rattle.model.specs.Tree.{Limit, Open, Below}
 use Rattle.model.specs.Reading.{rootVisits}
+use Rattle.model.specs.Refusals.{Answer, result}
+use Rattle.model.specs.Refusals as Answers
 use Rattle.node.specs.Layout.{opened}
 use Rattle.node.specs.Test.{nodeTest}
 use Rattle.node.specs.declared.header.StoreHeader.{StoreHeader}
@@ -47,3 +49,10 @@ testOf w n height row b =
 abbrev pub surveyOf : List ℕ → ℕ → ℕ
 surveyOf w ends =
     whenOpened (opened w) (λ h. surveyNumber (tally (h .layout .capacity) w (rootVisits (not (eqb ends 0)) (h .layout .capacity) (h .layout .pool) w (h .root .0)) noCounts))
+
+-- the end of the leaf that next gives
+abbrev pub endNumber : Answer → ℕ
+endNumber (result []) = refused
+endNumber (result (s ∷ [])) = refused
+endNumber (result (s ∷ e ∷ vs)) = e
+endNumber (Answers.refused n d) = refused

@@ -1,9 +1,14 @@
-// What the benchmark of the node test and the walk calls, behind C functions that any words may be handed to. No part of the
-// index; the calls themselves are measured through crates/host.
+// What the benchmarks of the node test, the walk and the leaf walk call, behind C functions that any words may be handed to. No part of the
+// index; the other calls are measured through crates/host.
 
 ghost use mathlib.Core.Path.{_≡_};
+ghost use Rattle.model.specs.LeafWalk.{seek};
+ghost use Rattle.byvalue.specs.Written.{nextWordsOf};
 ghost use Rattle.node.specs.Test.{limitOf};
-ghost use Rattle.bench_host.specs.Numbers.{limitTo, openNumber, surveyOf, testOf};
+ghost use Rattle.bench_host.specs.Numbers.{endNumber, limitTo, openNumber, surveyOf, testOf};
+use byvalue;
+use model::answer::NextLeaf;
+use model::cursor::RowPageIndexMemCursor;
 use model::id::NodeNo;
 use model::id::RowID;
 use node::header;
@@ -79,5 +84,24 @@ pub extern "C" fn bench_survey(words: &[u64], ends: u64) -> u64
             Survey::Unsound(_) => REFUSED,
             Survey::Counted(k) => k.nodes,
         },
+    }
+}
+
+// One step of a leaf walk from a row, the records as words: the leaf's end.
+#[no_mangle]
+pub extern "C" fn bench_next(words: &[u64], row: u64, list: &mut [u64]) -> u64
+    ensures number { λ r. ⌜ r ≡ endNumber (nextWordsOf (now (words .entry)) (seek row) (now (list .entry)) .answer) ⌝ }
+    ensures list { λ r. ⌜ now (list .exit) ≡ nextWordsOf (now (words .entry)) (seek row) (now (list .entry)) .words ⌝ }
+{
+    let cursor = RowPageIndexMemCursor {
+        row_id: RowID(row),
+        done: false,
+    };
+    let step = byvalue::next_words(words, cursor, list);
+    let answer = step.answer;
+    match answer {
+        NextLeaf::Refused(_) => REFUSED,
+        NextLeaf::Done => REFUSED,
+        NextLeaf::Found(leaf) => leaf.end_row_id.0,
     }
 }
