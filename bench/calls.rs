@@ -1,74 +1,62 @@
-//! Times of the proved calls: `calls C N ROUNDS` prints `NAME NANOSECONDS` lines, the least of the rounds. The appends and
-//! the rows looked up are those that the bench of the Rust makes.
+//! Times of the public calls of the listed Rust and of the port, made by one program in one run. It is no test: no time
+//! fails it. What both answer has to be the same.
 
+#[allow(dead_code)]
+#[path = "../oracle/src/store.rs"]
+mod index;
 #[allow(dead_code)]
 mod plain;
 #[allow(dead_code)]
 mod store;
 
+/// The listed Rust at the capacities that are timed, written by oracle/rust.
+mod listed {
+    include!(concat!(env!("BENCH_LISTED"), "/all.rs"));
+}
+
+use calls::Index;
+use index::{Cursor, Store};
+use std::collections::BTreeMap;
 use std::hint::black_box;
 use std::time::Instant;
 
-/// The C functions of crates/host, and `next` by crates/bench_host, with no cursor in words. A slice is a pointer and then a length; an answer is five words: 0, how many values, the
-/// values; or a refusal's number.
-mod rattle {
-    unsafe extern "C" {
-        fn row_page_index_create(w: *mut u64, len: usize, c: u64, p: u64, start: u64, a: *mut u64, n: usize) -> u64;
-        fn row_page_index_append(w: *mut u64, len: usize, count: u64, page: u64, a: *mut u64, n: usize) -> u64;
-        fn row_page_index_find(w: *const u64, len: usize, row: u64, a: *mut u64, n: usize) -> u64;
-        fn row_page_index_check(w: *const u64, len: usize, a: *mut u64, n: usize) -> u64;
-        fn bench_next(w: *const u64, len: usize, row: u64, list: *mut u64, list_len: usize) -> u64;
-        fn row_page_index_prune(
-            w: *mut u64, len: usize, start: u64, end: u64, ids: *const u64, ids_len: usize, a: *mut u64, n: usize,
-        ) -> u64;
-        fn row_page_index_destroy(
-            w: *mut u64, len: usize, pivot: u64, pages: *mut u64, pages_len: usize, a: *mut u64, n: usize,
-        ) -> u64;
+/// Rows of a page.
+const ROWS: u64 = 10;
+
+/// Nanoseconds of an operation, one number for each round.
+#[derive(Default)]
+struct Times(BTreeMap<&'static str, Vec<f64>>);
+
+impl Times {
+    fn keep(&mut self, name: &'static str, since: Instant, operations: u64) {
+        let each = since.elapsed().as_nanos() as f64 / operations.max(1) as f64;
+        self.0.entry(name).or_default().push(each);
     }
 
-    pub fn create(w: &mut [u64], capacity: u64, nodes: u64) {
-        let mut a = [0; 5];
-        assert_eq!(unsafe { row_page_index_create(w.as_mut_ptr(), w.len(), capacity, nodes, 0, a.as_mut_ptr(), 5) }, 0);
+    fn median(&self, name: &str) -> f64 {
+        let mut all = self.0[name].clone();
+        all.sort_by(f64::total_cmp);
+        all[all.len() / 2]
     }
 
-    /// The end of the range.
-    pub fn append(w: &mut [u64], count: u64, page: u64) -> u64 {
-        let mut a = [0; 5];
-        unsafe { row_page_index_append(w.as_mut_ptr(), w.len(), count, page, a.as_mut_ptr(), 5) };
-        a[3]
+    fn least(&self, name: &str) -> f64 {
+        self.0[name].iter().copied().fold(f64::MAX, f64::min)
+    }
+}
+
+/// Random rows below a limit (xorshift64).
+struct Rows(u64, u64);
+
+impl Rows {
+    fn new(limit: u64) -> Self {
+        Rows(0x9E37_79B9_7F4A_7C15, limit)
     }
 
-    /// The page.
-    pub fn find(w: &[u64], row: u64) -> u64 {
-        let mut a = [0; 5];
-        unsafe { row_page_index_find(w.as_ptr(), w.len(), row, a.as_mut_ptr(), 5) };
-        a[2]
-    }
-
-    /// The nodes of the tree.
-    pub fn check(w: &[u64]) -> u64 {
-        let mut a = [0; 5];
-        unsafe { row_page_index_check(w.as_ptr(), w.len(), a.as_mut_ptr(), 5) };
-        a[3]
-    }
-
-    /// The end of the leaf.
-    pub fn next(w: &[u64], row: u64, list: &mut [u64]) -> u64 {
-        unsafe { bench_next(w.as_ptr(), w.len(), row, list.as_mut_ptr(), list.len()) }
-    }
-
-    /// The nodes freed.
-    pub fn prune(w: &mut [u64], start: u64, end: u64, ids: &[u64]) -> u64 {
-        let mut a = [0; 5];
-        unsafe { row_page_index_prune(w.as_mut_ptr(), w.len(), start, end, ids.as_ptr(), ids.len(), a.as_mut_ptr(), 5) };
-        a[3]
-    }
-
-    /// The nodes freed.
-    pub fn destroy(w: &mut [u64], pages: &mut [u64]) -> u64 {
-        let mut a = [0; 5];
-        unsafe { row_page_index_destroy(w.as_mut_ptr(), w.len(), 0, pages.as_mut_ptr(), pages.len(), a.as_mut_ptr(), 5) };
-        a[2]
+    fn next(&mut self) -> u64 {
+        self.0 ^= self.0 << 13;
+        self.0 ^= self.0 >> 7;
+        self.0 ^= self.0 << 17;
+        (self.0 as u128 * self.1 as u128 >> 64) as u64
     }
 }
 
@@ -90,100 +78,205 @@ fn read_path(w: &[u64], row: u64) -> u64 {
     }
 }
 
-fn main() {
-    let args: Vec<u64> = std::env::args().skip(1).map(|a| a.parse().unwrap()).collect();
-    let (c, n, rounds) = (args[0], args[1], args[2]);
-    let nodes = match c {
-        2 => 65_535,
-        _ => 2 * n / c + 64,
-    };
-    let mut best = [f64::MAX; 13];
-    let mut keep = |i: usize, t: Instant, ops: u64| best[i] = best[i].min(t.elapsed().as_nanos() as f64 / ops as f64);
-    let mut words = vec![0u64; (8 + nodes * (4 + 2 * c)) as usize];
-    let mut held = 0;
-    let mut list = vec![0u64; 2 * c as usize];
-    let mut pages = vec![0u64; n as usize];
-    let mut others = vec![0u64; n as usize];
-    let ids: Vec<u64> = (1..=n).collect();
-    for _ in 0..rounds {
-        rattle::create(&mut words, c, nodes);
-        let t = Instant::now();
-        for k in 0..n {
-            black_box(rattle::append(black_box(&mut words), 10, k + 1));
-        }
-        keep(0, t, n);
-        let mut x = 0x9E37_79B9_7F4A_7C15u64;
-        let mut random = || {
-            x ^= x << 13;
-            x ^= x >> 7;
-            x ^= x << 17;
-            (x as u128 * (10 * n) as u128 >> 64) as u64
-        };
-        let t = Instant::now();
-        for _ in 0..n {
-            let row = random();
-            assert!(rattle::find(black_box(&words), row) == row / 10 + 1);
-        }
-        keep(1, t, n);
-        let t = Instant::now();
-        for _ in 0..n / 10 {
-            black_box(read_path(black_box(&words), random()));
-        }
-        keep(2, t, n / 10);
-        let t = Instant::now();
-        held = black_box(rattle::check(black_box(&words)));
-        keep(3, t, held);
-        assert!(held <= nodes);
-        let t = Instant::now();
-        assert_eq!(black_box(plain::check::<false>(black_box(&words))), held);
-        keep(4, t, held);
-        let t = Instant::now();
-        assert_eq!(black_box(plain::check::<true>(black_box(&words))), held);
-        keep(8, t, held);
-        let t = Instant::now();
-        assert_eq!(black_box(plain::check_once::<false>(black_box(&words))), held);
-        keep(10, t, held);
-        let (mut row, mut leaves) = (0, 0);
-        let t = Instant::now();
-        while row < 10 * n {
-            row = black_box(rattle::next(black_box(&words), row, &mut list));
-            leaves += 1;
-        }
-        keep(5, t, leaves);
-        assert_eq!(row, 10 * n);
-        let mut copy = words.clone();
-        let t = Instant::now();
-        assert_eq!(rattle::prune(black_box(&mut copy), 0, 10 * n, &ids), held - 1);
-        keep(11, t, n);
-        copy.copy_from_slice(&words);
-        let t = Instant::now();
-        black_box(rattle::prune(black_box(&mut copy), 0, 10 * (n / 2), &ids[..n as usize / 2]));
-        keep(12, t, n / 2);
-        copy.copy_from_slice(&words);
-        let t = Instant::now();
-        assert_eq!(plain::destroy::<false>(black_box(&mut copy), &mut others), held);
-        keep(6, t, held);
-        copy.copy_from_slice(&words);
-        let t = Instant::now();
-        assert_eq!(plain::destroy::<true>(black_box(&mut copy), &mut others), held);
-        keep(9, t, held);
-        let t = Instant::now();
-        assert_eq!(rattle::destroy(black_box(&mut words), &mut pages), held);
-        keep(7, t, held);
-        assert!(copy == words && pages == others);
+/// What the two sides are asked: so many appends, so many lookups, and the page ids of a prune.
+struct Work {
+    entries: u64,
+    lookups: u64,
+    ids: Vec<u64>,
+}
+
+impl Work {
+    fn new(entries: u64) -> Self {
+        Work { entries, lookups: entries.clamp(20_000, 100_000), ids: (1..=entries).collect() }
     }
-    println!("nodes {held}");
-    println!("append {:.1}", best[0]);
-    println!("find {:.1}", best[1]);
-    println!("read {:.1}", best[2]);
-    println!("check {:.1}", best[3]);
-    println!("plain_check {:.1}", best[4]);
-    println!("walk {:.1}", best[5]);
-    println!("plain_release {:.1}", best[6]);
-    println!("release {:.1}", best[7]);
-    println!("four_check {:.1}", best[8]);
-    println!("once_check {:.1}", best[10]);
-    println!("four_release {:.1}", best[9]);
-    println!("prune {:.1}", best[11]);
-    println!("prune_half {:.1}", best[12]);
+
+    fn end(&self) -> u64 {
+        ROWS * self.entries
+    }
+}
+
+/// A round of the Rust: its leaves, nodes freed by the prune, nodes freed by the release.
+fn rust_round(create: calls::Create, work: &Work, times: &mut Times) -> [u64; 3] {
+    let mut index = create(0, 1 << 32).unwrap();
+    let append_all = |index: &mut Box<dyn Index>, name, times: &mut Times| {
+        let t = Instant::now();
+        for k in 0..work.entries {
+            black_box(index.append(ROWS, k + 1)).unwrap();
+        }
+        times.keep(name, t, work.entries);
+    };
+    append_all(&mut index, "append, first", times);
+    let mut rows = Rows::new(work.end());
+    let t = Instant::now();
+    for _ in 0..work.lookups {
+        let row = rows.next();
+        assert!(index.find(row).unwrap() == Some(row / ROWS + 1));
+    }
+    times.keep("lookup", t, work.lookups);
+    // Where the Rust ends a walk too early, it is sought again.
+    let (mut leaves, mut entries, mut at) = (0, 0, 0);
+    let t = Instant::now();
+    while at < work.end() {
+        let from = at;
+        let seen = &mut |end, count| (leaves, entries, at) = (leaves + 1, entries + count, end);
+        index.leaves(from, seen).unwrap();
+    }
+    times.keep("next", t, leaves);
+    assert_eq!(entries, work.entries);
+    let nodes = index.taken();
+    let t = Instant::now();
+    let pruned = index.prune(0, work.end(), &work.ids).unwrap();
+    times.keep("prune", t, work.entries);
+    // The same appends once more: now every node comes from the free list, as in the port.
+    append_all(&mut index, "append", times);
+    let t = Instant::now();
+    assert_eq!(index.destroy(work.end()).unwrap().len() as u64, work.entries);
+    times.keep("release", t, nodes);
+    [leaves, pruned[1], nodes]
+}
+
+/// A round of the port, in words that the round before has used.
+fn port_round(store: &mut Store, copy: &mut Store, c: u64, nodes: u64, work: &Work, times: &mut Times) -> [u64; 3] {
+    store.create(c, nodes, 0).unwrap();
+    let t = Instant::now();
+    for k in 0..work.entries {
+        black_box(store.append(ROWS, k + 1)).unwrap();
+    }
+    times.keep("append", t, work.entries);
+    copy.words.copy_from_slice(&store.words);
+    let t = Instant::now();
+    let pruned = copy.prune(0, work.end(), &work.ids).unwrap();
+    times.keep("prune", t, work.entries);
+    let mut rows = Rows::new(work.end());
+    let t = Instant::now();
+    for _ in 0..work.lookups {
+        let row = rows.next();
+        assert!(store.find(row).unwrap() == Some(row / ROWS + 1));
+    }
+    times.keep("lookup", t, work.lookups);
+    let mut rows = Rows::new(work.end());
+    let t = Instant::now();
+    for _ in 0..work.lookups / 10 {
+        black_box(read_path(black_box(&store.words), rows.next()));
+    }
+    times.keep("lookup, only read", t, work.lookups / 10);
+    let t = Instant::now();
+    for _ in 0..work.lookups / 10 {
+        black_box(read_path(black_box(&store.words), work.end()));
+    }
+    times.keep("append, only read", t, work.lookups / 10);
+    let mut records = vec![0; 2 * c as usize];
+    let (mut cursor, mut leaves, mut entries) = (Cursor::new(), 0, 0);
+    let t = Instant::now();
+    cursor.seek(0);
+    while let Some(leaf) = store.next(&mut cursor, &mut records).unwrap() {
+        (leaves, entries) = (leaves + 1, entries + leaf.count);
+    }
+    times.keep("next", t, leaves);
+    assert_eq!(entries, work.entries);
+    let t = Instant::now();
+    let held = store.check().unwrap();
+    times.keep("check", t, held.nodes);
+    assert_eq!((held.entries, held.nodes + held.free), (work.entries, nodes));
+    let t = Instant::now();
+    assert_eq!(black_box(plain::check::<false>(black_box(&store.words))), held.nodes);
+    times.keep("check, plain", t, held.nodes);
+    let t = Instant::now();
+    assert_eq!(black_box(plain::check_once::<false>(black_box(&store.words))), held.nodes);
+    times.keep("check, plain, once", t, held.nodes);
+    let mut pages = vec![0; work.entries as usize];
+    copy.words.copy_from_slice(&store.words);
+    let t = Instant::now();
+    assert_eq!(plain::destroy::<false>(black_box(&mut copy.words), &mut pages), held.nodes);
+    times.keep("release, plain", t, held.nodes);
+    let t = Instant::now();
+    assert_eq!(store.destroy(0, &mut pages).unwrap().nodes, held.nodes);
+    times.keep("release", t, held.nodes);
+    assert!(copy.words == store.words && pages == work.ids);
+    [leaves, pruned.freed, held.nodes]
+}
+
+struct Measured {
+    c: u64,
+    entries: u64,
+    rust: Times,
+    port: Times,
+}
+
+/// Rounds of both sides in turn, the first of them not counted.
+fn measure(c: u64, entries: u64, rounds: u64) -> Measured {
+    let create = listed::ALL.iter().find(|l| l.0 == c).unwrap().1;
+    let work = Work::new(entries);
+    // At C = 2 an append takes about one node; the pool has at most 65,535.
+    let nodes = if c == 2 { 65_535 } else { (entries / c + entries / c / (c / 2) + 64).min(65_535) };
+    let empty = || Store { words: vec![0; Store::length(c, nodes) as usize] };
+    let (mut store, mut copy) = (empty(), empty());
+    let mut m = Measured { c, entries, rust: Times::default(), port: Times::default() };
+    for round in 0..=rounds {
+        if round == 1 {
+            (m.rust, m.port) = (Times::default(), Times::default());
+        }
+        let ours = port_round(&mut store, &mut copy, c, nodes, &work, &mut m.port);
+        assert_eq!(ours, rust_round(create, &work, &mut m.rust));
+    }
+    m
+}
+
+/// A cell: median and least.
+fn cell(times: &Times, name: &str) -> String {
+    format!("{:.1} ({:.1})", times.median(name), times.least(name))
+}
+
+const CALLS: [(&str, &str, &str); 6] = [
+    ("append", "append", "append"),
+    ("append, the Rust's nodes allocated", "append", "append, first"),
+    ("lookup", "lookup", "lookup"),
+    ("next, a leaf", "next", "next"),
+    ("prune of all, an entry", "prune", "prune"),
+    ("release, a node", "release", "release"),
+];
+
+fn main() {
+    println!("| C | call | Rattle, ns: median (least) | Rust | Rattle to Rust |");
+    println!("|---|---|---|---|---|");
+    let mut all = Vec::new();
+    for (c, _) in listed::ALL {
+        let m = measure(c, 60_000, 15);
+        for (call, ours, theirs) in CALLS {
+            let ratio = m.port.median(ours) / m.rust.median(theirs);
+            println!("| {c} | {call} | {} | {} | {ratio:.2} |", cell(&m.port, ours), cell(&m.rust, theirs));
+        }
+        all.push(m);
+    }
+    println!("\n| C | beside a plain loop in Rust on the same words | Rattle, ns: median (least) | plain loop | Rattle to it |");
+    println!("|---|---|---|---|---|");
+    for m in &all {
+        for (call, ours, plain) in [
+            ("full check, a node", "check", "check, plain"),
+            ("full check, a node; the loop reads the tree once", "check", "check, plain, once"),
+            ("release, a node", "release", "release, plain"),
+            ("lookup; the words of its path only read", "lookup", "lookup, only read"),
+            ("append; the words of its path only read", "append", "append, only read"),
+        ] {
+            let ratio = m.port.median(ours) / m.port.median(plain);
+            println!("| {} | {call} | {} | {} | {ratio:.2} |", m.c, cell(&m.port, ours), cell(&m.port, plain));
+        }
+    }
+    println!("\n| C | entries | append: Rattle / Rust, ns | lookup | next, a leaf | prune, an entry | release, a node | full check, a node |");
+    println!("|---|---|---|---|---|---|---|---|");
+    for (c, sizes) in [
+        (2, &[1_000, 10_000, 60_000][..]),
+        (16, &[1_000, 10_000, 100_000, 900_000]),
+        (64, &[1_000, 10_000, 100_000, 1_000_000]),
+        (4094, &[1_000, 10_000, 100_000, 1_000_000]),
+    ] {
+        for entries in sizes {
+            let m = measure(c, *entries, (1_000_000 / entries).clamp(5, 25));
+            print!("| {c} | {} |", m.entries);
+            for call in ["append", "lookup", "next", "prune", "release"] {
+                print!(" {:.1} / {:.1} |", m.port.median(call), m.rust.median(call));
+            }
+            println!(" {:.1} |", m.port.median("check"));
+        }
+    }
 }

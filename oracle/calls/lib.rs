@@ -34,6 +34,8 @@ pub trait Index {
     fn prune(&mut self, start: u64, end: u64, ids: &[u64]) -> Result<[u64; 3], Failure>;
     /// A new cursor, a seek unless the row is none, then next until it answers none twice.
     fn walk(&mut self, row: Option<u64>) -> Result<Vec<Leaf>, Failure>;
+    /// A seek, then next until it answers none: end and count of each leaf. Nothing is kept, so that it can be timed.
+    fn leaves(&mut self, row: u64, seen: &mut dyn FnMut(u64, u64)) -> Result<(), Failure>;
     /// The page ids in the order of freeing.
     fn destroy(&mut self, pivot: u64) -> Result<Vec<u64>, Failure>;
     fn destroy_empty(&mut self) -> Result<(), Failure>;
@@ -43,7 +45,7 @@ pub trait Index {
     fn height(&self) -> u64;
     /// Nodes taken from the pool and not freed.
     fn taken(&self) -> u64;
-    /// Nodes that were freed since the last call of this, in order.
+    /// Nodes that were freed since the last call of this, in order; none in a build without debug assertions.
     fn freed(&mut self) -> Vec<Freed>;
     /// Frees the nodes that the pool has taken and the tree does not reach.
     fn recover(&mut self);

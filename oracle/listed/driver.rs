@@ -153,6 +153,19 @@ impl Index for Driver {
         })
     }
 
+    fn leaves(&mut self, row: u64, seen: &mut dyn FnMut(u64, u64)) -> Result<(), Failure> {
+        caught(async {
+            let mut cursor = self.index().mem_cursor(&self.guard);
+            cursor.seek(RowID::new(row)).await?;
+            while let Some(leaf) = cursor.next().await? {
+                let leaf = leaf.must_shared();
+                let h = &leaf.page().header;
+                seen(h.end_row_id.as_u64(), h.count as u64);
+            }
+            Ok::<_, error_stack::Report<crate::error::RuntimeError>>(())
+        })
+    }
+
     fn destroy(&mut self, pivot: u64) -> Result<Vec<u64>, Failure> {
         self.rows.freed.borrow_mut().clear();
         self.released(|d, index| caught(index.destroy(&d.guard, &d.rows, &d.row_guard, RowID::new(pivot))))?;

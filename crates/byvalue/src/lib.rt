@@ -27,21 +27,31 @@ pub fn seek_value(c: RowPageIndexMemCursor, row: RowID) -> RowPageIndexMemCursor
     d
 }
 
-// Row and page of each entry in turn.
+// Words go to the front of a list, and the rest of it stays.
+fn copy_front(from: &[u64], out: &mut [u64])
+    requires { ⌜ length (now from) ≤ length (now out) ⌝ }
+    ensures { λ _. ⌜ now (out .exit) ≡ fill (now (out .entry)) 0 (now (from .entry)) ⌝ }
+{
+    let mut i: usize = 0;
+    while i < from.len() {
+        out[i] = from[i];
+        i += 1;
+    }
+}
+
+// Row and page of each entry in turn: the words of the leaf's pairs as they stand.
 fn copy_words(s: &[u64], out: &mut [u64], e: LeafEntries)
     requires { ⌜ Readable (now s) e × (2 * e .count ≤ length (now out)) ⌝ }
     ensures { λ _. ⌜ now (out .exit) ≡ fill (now (out .entry)) 0 (wordsOf (recordsOf (now (s .entry)) e)) ⌝ }
 {
     let count = e.count;
-    let mut i: usize = 0;
-    while i < count {
-        let r = listing::entry_at(s, e, i);
-        let row = r.row_id;
-        let page = r.page_id;
-        out[2 * i] = row.0;
-        out[2 * i + 1] = page.0;
-        i += 1;
+    if count == 0 {
+        return;
     }
+    let l = e.layout;
+    let n = e.leaf;
+    let pairs = l.entries(s, n, count as u64);
+    copy_front(pairs, out);
 }
 
 // `next` with a list of words in place of the list of records: two words to a record.

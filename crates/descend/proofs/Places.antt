@@ -14,6 +14,7 @@ use Rattle.model.specs.Reading.{lastNotAbove}
 use Rattle.model.proofs.Tests.{by-test, holds, is-true}
 use Rattle.model.proofs.Sound.{rises}
 use Rattle.model.proofs.Place.{risen, last-at}
+use Rattle.descend.specs.Place.{LiesIn}
 use Rattle.node.proofs.Rows.{yes, rest, rise-all}
 
 module _ (C : ℕ) (w : List ℕ) (n k : ℕ) (some : 1 ≤ k) (up : T (rising (pairsFrom C w (λ (x : ℕ). x) n 0 k))) where
@@ -53,3 +54,47 @@ place-below C w n q zero h = absurd (omega arith)
 place-below C w n q (suc zero) h = by-test (leb (row C w n 0) q) (λ t. rw t (omega arith)) (λ t. rw t (omega arith))
 place-below C w n q (suc (suc k)) h =
     by-test (leb (row C w n (suc k)) q) (λ t. rw t (omega arith)) (λ t. rw t (omega (arith, place-below C w n q (suc k) (omega arith))))
+
+-- a row that is not above q is at the place or before it
+pub place-from : (C : ℕ) (w : List ℕ) (n q k i : ℕ) → i < k → row C w n i ≤ q → i ≤ lastNotAbove C w q n k
+unfolding lastNotAbove
+place-from C w n q zero i l h = absurd (omega arith)
+place-from C w n q (suc k) i l h =
+    by-test (leb (row C w n k) q)
+    (λ t. rw t (omega arith))
+    (λ t. rw t (⊎-elim (λ (e : i ≡ k). absurd (omega (arith, leb-false (row C w n k) q t, subst (λ (x : ℕ). row C w n x ≤ q) e h))) (λ (g : i < k). place-from C w n q k i g h) (eq-or-lt-of-le (omega arith))))
+
+-- where every row from i on is above q, the place is before i
+pub place-before : (C : ℕ) (w : List ℕ) (n q k i : ℕ) → 1 ≤ i → ((m : ℕ) → i ≤ m → m < k → q < row C w n m) → lastNotAbove C w q n k < i
+unfolding lastNotAbove
+place-before C w n q zero i s f = omega arith
+place-before C w n q (suc k) i s f =
+    by-test (leb (row C w n k) q)
+    (λ t. by-test (leb i k)
+    (λ u. absurd (omega (arith, leb-true (row C w n k) q t, f k (leb-true i k u) (omega arith))))
+    (λ u. rw t (omega (arith, leb-false i k u))))
+    (λ t. rw t (place-before C w n q k i s (λ m l b. f m l (omega arith))))
+
+-- The part that the place lies in ------------------------------------------------------------------------
+
+-- after the rows before i: it lies behind the last one that is not above q, or i is the next to look at
+abbrev pub Looked : ℕ → List ℕ → ℕ → ℕ → ℕ → ℕ → ℕ → ℕ → Type 0
+Looked C w q n k step place i =
+    (place < k) × (place ≤ lastNotAbove C w q n k) × ((lastNotAbove C w q n k < place + step) ⊎ (place + step ≡ i))
+
+module _ (C : ℕ) (w : List ℕ) (n k : ℕ) (some : 1 ≤ k) (up : T (rising (pairsFrom C w (λ (x : ℕ). x) n 0 k))) (q step place i : ℕ) (h : Looked C w q n k step place i) where
+  pub moved : i < k → row C w n i ≤ q → Looked C w q n k step i (i + step)
+  moved l r = (l, place-from C w n q k i l r, inr refl)
+
+  pub kept : 1 ≤ step → i < k → q < row C w n i → Looked C w q n k step place (i + step)
+  kept s l r = (
+    h .0,
+    h .1,
+    inl (⊎-elim (λ (g : lastNotAbove C w q n k < place + step). g)
+        (λ (e : place + step ≡ i). omega (arith, place-before C w n q k i (omega arith) (above-from C w n k some up q i (inr r)))) (h .2)),
+  )
+
+  -- all rows up to the end were looked at, and the place is below it
+  pub found : (end : ℕ) → lastNotAbove C w q n k < end → end ≤ i → LiesIn C w q n k place step
+  found end b l =
+      record { from = h .1; before = ⊎-elim (λ (g : lastNotAbove C w q n k < place + step). g) (λ (e : place + step ≡ i). omega arith) (h .2) }

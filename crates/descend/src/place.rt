@@ -1,61 +1,65 @@
 // The place of a row in a node.
 
 ghost use mathlib.Core.Path.{_≡_};
-ghost use Prim.Native.Nat.{ℕ, _+_, _-_, _≤_, _<_};
+ghost use Prim.Native.Nat.{ℕ, _+_, _≤_, _<_, min};
 ghost use lib.Dec.{T};
 ghost use Rattle.model.specs.Tree.{pairsFrom, rising};
 ghost use Rattle.model.specs.Reading.{lastNotAbove};
 ghost use Rattle.node.specs.Layout.{Fits};
+ghost use Rattle.descend.specs.Place.{LiesIn};
 use model::id::NodeNo;
 use model::id::RowID;
 use node::layout::Layout;
 
-// Up to so many entries, looking at one after the other is faster than halving.
-const FEW: u64 = 64;
-
-// The last entry of node n whose row is not above q, from the front; 0 where there is none.
-fn place_from_front(l: Layout, s: &[u64], n: NodeNo, count: u64, q: RowID) -> u64
-    requires { ⌜ Fits l (now s) ⌝ }
-    requires { ⌜ (n .0 < l .pool) × (1 ≤ count) × (count ≤ l .capacity) × T (rising (pairsFrom (l .capacity) (now s) (λ (x : ℕ). x) (n .0) 0 count)) ⌝ }
-    ensures { λ r. ⌜ r ≡ lastNotAbove (l .capacity) (now (s .entry)) (q .0) (n .0) count ⌝ }
+// The end of a part of so many entries from low on.
+fn part_end(low: u64, width: u64, count: u64) -> u64
+    requires { ⌜ (low ≤ 4096) × (width ≤ 4096) ⌝ }
+    ensures { λ r. ⌜ r ≡ min (low + width) count ⌝ }
 {
-    let mut i: u64 = 1;
-    while i < count {
-        if q.0 < l.row(s, n, i).0 {
-            return i - 1;
-        }
-        i += 1;
+    let end = low + width;
+    if count < end {
+        return count;
     }
-    i - 1
+    end
 }
 
-// The same by halving.
-fn place_by_halves(l: Layout, s: &[u64], n: NodeNo, count: u64, q: RowID) -> u64
+// The place of q lies in a part of so many entries from low on: the start of a part of step entries that it lies in. Every
+// step-th row is looked at, and no branch depends on one: the processor would guess it wrong half of the time.
+fn narrow(
+    l: Layout,
+    s: &[u64],
+    n: NodeNo,
+    count: u64,
+    q: RowID,
+    low: u64,
+    width: u64,
+    step: u64,
+) -> u64
     requires { ⌜ Fits l (now s) ⌝ }
-    requires { ⌜ (n .0 < l .pool) × (1 ≤ count) × (count ≤ l .capacity) × T (rising (pairsFrom (l .capacity) (now s) (λ (x : ℕ). x) (n .0) 0 count)) ⌝ }
-    ensures { λ r. ⌜ r ≡ lastNotAbove (l .capacity) (now (s .entry)) (q .0) (n .0) count ⌝ }
+    requires { ⌜ (n .0 < l .pool) × (count ≤ l .capacity) × T (rising (pairsFrom (l .capacity) (now s) (λ (x : ℕ). x) (n .0) 0 count)) ⌝ }
+    requires { ⌜ (1 ≤ step) × (step ≤ 4096) × (width ≤ 4096) × (low < count) ⌝ }
+    requires { ⌜ LiesIn (l .capacity) (now s) (q .0) (n .0) count low width ⌝ }
+    ensures { λ r. ⌜ LiesIn (l .capacity) (now (s .entry)) (q .0) (n .0) count r step ⌝ }
 {
-    let mut low: u64 = 0;
-    let mut high = count;
-    while low + 1 < high {
-        let mid = (low + high) / 2;
-        if l.row(s, n, mid).0 <= q.0 {
-            low = mid;
-        } else {
-            high = mid;
+    let end = part_end(low, width, count);
+    let mut place = low;
+    let mut i = low + step;
+    while i < end {
+        if l.row(s, n, i).0 <= q.0 {
+            place = i;
         }
+        i += step;
     }
-    low
+    place
 }
 
+// The last entry of node n whose row is not above q; 0 where there is none.
 pub fn place_of(l: Layout, s: &[u64], n: NodeNo, count: u64, q: RowID) -> u64
     requires { ⌜ Fits l (now s) ⌝ }
     requires { ⌜ (n .0 < l .pool) × (1 ≤ count) × (count ≤ l .capacity) × T (rising (pairsFrom (l .capacity) (now s) (λ (x : ℕ). x) (n .0) 0 count)) ⌝ }
     ensures { λ r. ⌜ r ≡ lastNotAbove (l .capacity) (now (s .entry)) (q .0) (n .0) count ⌝ }
 {
-    if count <= FEW {
-        place_from_front(l, s, n, count, q)
-    } else {
-        place_by_halves(l, s, n, count, q)
-    }
+    let part = narrow(l, s, n, count, q, 0, count, 256);
+    let few = narrow(l, s, n, count, q, part, 256, 16);
+    narrow(l, s, n, count, q, few, 16, 1)
 }
