@@ -44,15 +44,17 @@ pub fn find_room(l: Layout, s: &[u64], root: NodeNo) -> Room
         needed: height + 2,
     };
     while 0 < h {
-        let count = l.part(s, n, 1);
-        if count < l.capacity {
+        let branch = l.header(s, n);
+        let full = branch.is_full(l.capacity);
+        if !full {
             best = Room { node: n, needed: h };
         }
-        n = l.child(s, n, count - 1);
+        n = l.child(s, n, branch.count - 1);
         h -= 1;
     }
-    let count = l.part(s, n, 1);
-    if count < l.capacity {
+    let leaf = l.header(s, n);
+    let full = leaf.is_full(l.capacity);
+    if !full {
         return Room { node: n, needed: 0 };
     }
     best

@@ -8,14 +8,14 @@ use native.Mathlib.Nat.{add-zero, zero-add}
 use native.Mathlib.Numerals.{add-one}
 use lib.ListN.{getD, set, length}
 use lib.Seq.{getD-set-same, getD-set-other}
-use lib.Dec.{eqb, ltb→lt, leb→le, eqb→eq}
-use borrow.Author.Tests.{lt-ltb, le-leb, eq-eqb, ne-eqb}
+use lib.Dec.{eqb, leb, ltb, ltb→lt, leb→le, eqb→eq}
+use borrow.Author.Tests.{lt-ltb, le-ltb, le-leb, eq-eqb, ne-eqb}
 use Rattle.model.specs.Words.{height, count, freeMark}
 use Rattle.model.specs.Reading.{occ}
 use Rattle.model.specs.Append.{chainSound, firsts}
 use Rattle.model.specs.declared.id.NodeNo.{NodeNo}
 use Rattle.model.proofs.Tests.{and-l, and-r, holds, is-true, by-test}
-use Rattle.pool.specs.Write.{listed}
+use Rattle.pool.specs.Write.{isLink, listed}
 use Rattle.pool.proofs.Turns.{turn, stop}
 
 abbrev none : NodeNo
@@ -57,6 +57,17 @@ module _ (n : ℕ) (l : List NodeNo) (i k : ℕ) where
 
 -- The chain ----------------------------------------------------------------------------------------------
 
+-- the test of one node
+module _ (C P : ℕ) (w : List ℕ) (n : ℕ) where
+  pub link-out : P ≤ n → false ≡ isLink C P w n
+  link-out h = rw (le-ltb n P h)
+
+  pub link-unmarked : eqb (height C w n) freeMark ≡ false → false ≡ isLink C P w n
+  link-unmarked e = by-test (ltb n P) (λ t. rw (t, e)) (λ t. rw t)
+
+  pub link-marked : n < P → eqb (height C w n) freeMark ≡ true → leb (count C w n) P ≡ isLink C P w n
+  link-marked h e = rw (lt-ltb n P h, e)
+
 -- node n may follow the nodes seen
 pub record Link (C P : ℕ) (w : List ℕ) (n : ℕ) (seen : List ℕ) : Type 0 where
   pub inside : n < P
@@ -75,6 +86,19 @@ module _ (C P : ℕ) (w : List ℕ) (n : ℕ) (seen : List ℕ) where
         next = leb→le (count C w n) P (search (and-l, and-r) depth 8);
         new = is-true (eqb (occ n seen) 0) (search (and-l, and-r) depth 8);
       }
+
+  pub link-of : isLink C P w n ≡ true → eqb (occ n seen) 0 ≡ true → Link C P w n seen
+  link-of e u =
+      let t = holds (isLink C P w n) e in
+      record {
+        inside = ltb→lt n P (search (and-l, and-r) depth 8);
+        marked = eqb→eq (height C w n) freeMark (search (and-l, and-r) depth 8);
+        next = leb→le (count C w n) P (search (and-l, and-r) depth 8);
+        new = u;
+      }
+
+  pub link-is : Link C P w n seen → isLink C P w n ≡ true
+  link-is p = rw (lt-ltb n P (p .inside), eq-eqb (height C w n) freeMark (p .marked), le-leb (count C w n) P (p .next))
 
   module _ (i k : ℕ) (h : i < k) where
     pub linked : Link C P w n seen → chainSound C P w n seen (k - i) ≡ chainSound C P w (count C w n) (seen ++ (n ∷ [])) (k - (i + 1))

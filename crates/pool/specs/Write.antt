@@ -1,8 +1,10 @@
 -- What the writing functions leave, as puts.
 use Prim.Native.Nat.{ℕ, zero, suc, _+_}
 use mathlib.Core.List.{List, [], _∷_}
+use mathlib.Core.Bool.{Bool, _&&_}
 use lib.ListN.{getD}
-use Rattle.model.specs.Words.{put, rowPlace, childPlace}
+use lib.Dec.{eqb, leb, ltb}
+use Rattle.model.specs.Words.{put, rowPlace, childPlace, height, count, freeMark}
 use Rattle.model.specs.declared.id.NodeNo.{NodeNo}
 use Rattle.model.specs.declared.node.RowPageIndexNodeHeader.{RowPageIndexNodeHeader}
 
@@ -11,6 +13,10 @@ putHeader C w n h = put C (put C (put C (put C w n 0 (h .height)) n 1 (h .count)
 
 abbrev pub putEntry : ℕ → List ℕ → ℕ → ℕ → ℕ → ℕ → List ℕ
 putEntry C w n i r x = put C (put C w n (rowPlace C i) r) n (childPlace C i) x
+
+-- "each below P and marked free, its next number at most P"
+abbrev pub isLink : ℕ → ℕ → List ℕ → ℕ → Bool
+isLink C P w n = ltb n P && eqb (height C w n) freeMark && leb (count C w n) P
 
 -- the numbers of k nodes of an array, from place i on
 unfoldable pub listed : List NodeNo → ℕ → ℕ → List ℕ

@@ -10,7 +10,7 @@ ghost use Rattle.model.specs.Words.{freeCount, freed};
 ghost use Rattle.model.specs.Reading.{occ};
 ghost use Rattle.model.specs.Append.{chainSound, firsts, past};
 ghost use Rattle.node.specs.Layout.{Fits};
-ghost use Rattle.pool.specs.Write.{listed};
+ghost use Rattle.pool.specs.Write.{isLink, listed};
 use crate::write;
 use model::id::NodeNo;
 use model::node::RowPageIndexNodeHeader;
@@ -54,6 +54,22 @@ pub fn holds(nodes: [NodeNo; 32], k: usize, n: NodeNo) -> bool
     false
 }
 
+// Whether node n may be in the chain: below the pool and marked free, its next number at most the pool.
+fn is_link(l: Layout, s: &[u64], n: NodeNo) -> bool
+    requires { ⌜ Fits l (now s) ⌝ }
+    ensures { λ r. ⌜ r ≡ isLink (l .capacity) (l .pool) (now (s .entry)) (n .0) ⌝ }
+{
+    if l.pool <= n.0 {
+        return false;
+    }
+    let node = l.header(s, n);
+    let free = node.is_free();
+    if !free {
+        return false;
+    }
+    node.count <= l.pool
+}
+
 // The first nodes of the chain, the number after them, and whether they may be taken.
 pub struct Wanted {
     pub nodes: [NodeNo; 32],
@@ -72,23 +88,8 @@ pub fn read_chain(l: Layout, s: &[u64], head: NodeNo, k: usize) -> Wanted
     let mut n = head;
     let mut i: usize = 0;
     while i < k {
-        if l.pool <= n.0 {
-            return Wanted {
-                nodes,
-                next: n,
-                sound: false,
-            };
-        }
-        let mark = l.part(s, n, 0);
-        if mark != RowPageIndexNodeHeader::FREE_MARK {
-            return Wanted {
-                nodes,
-                next: n,
-                sound: false,
-            };
-        }
-        let next = l.part(s, n, 1);
-        if l.pool < next {
+        let link = is_link(l, s, n);
+        if !link {
             return Wanted {
                 nodes,
                 next: n,
@@ -104,7 +105,7 @@ pub fn read_chain(l: Layout, s: &[u64], head: NodeNo, k: usize) -> Wanted
             };
         }
         nodes[i] = n;
-        n = NodeNo(next);
+        n = NodeNo(l.part(s, n, 1));
         i += 1;
     }
     Wanted {

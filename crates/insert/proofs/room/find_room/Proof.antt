@@ -1,8 +1,12 @@
 use borrow.Author.Needs.{needs}
-use Prim.Native.Nat.{_-_, _≤_}
-use mathlib.Core.Path.{_≡_, sym, _∙_}
+use Prim.Native.Nat.{_-_, _≤_, _<_}
+use mathlib.Core.Path.{_≡_, sym, _∙_, ap}
 use mathlib.Core.Logic.{⊎-elim}
 use native.Mathlib.Omega.{arith}
+use lib.Dec.{leb}
+use borrow.Author.Tests.{leb-true, leb-false, not-true, not-false}
+use Rattle.model.specs.Words.{count}
+use Rattle.model.specs.declared.node.RowPageIndexNodeHeader.{RowPageIndexNodeHeader}
 use Rattle.model.specs.Append.{room, roomFrom}
 use Rattle.insert.specs.Room.{Edge, roomOf}
 use Rattle.insert.proofs.RightEdge.{edge-inside, edge-turn, room-at, room-here, room-full, leaf-here, leaf-full}
@@ -21,27 +25,32 @@ part-requires c κs =
     let a = c .before .args in
     (c .before .pre .0, (edge-inside (a .l .capacity) (a .l .pool) (a .s .now) _ _ (c .before .pre .1 .1), omega arith))
 
-add-t10 : tie.Need-add-t10 Inv-loop μ-loop
-add-t10 c = omega (arith, c .part .ensures, c .before .before .pre .1 .0)
+add-t12 : tie.Need-add-t12 Inv-loop μ-loop
+add-t12 c = omega (arith, c .part .ensures, c .before .before .pre .1 .0)
 
 loop-holds : tie.Need-loop-holds Inv-loop μ-loop
 loop-holds c = (omega (arith, c .part .ensures, c .before .before .pre .1 .0), rw (c .part .ensures) (c .before .before .pre .1 .1), room-at _ _ _ _ (c .part .ensures))
 
-part-requires-2 : tie.Need-part-requires-2 Inv-loop μ-loop
-part-requires-2 c κs =
+header-requires : tie.Need-header-requires Inv-loop μ-loop
+header-requires c κs =
     let a = c .before .before .before .before .args in
-    (c .before .before .before .before .pre .0, (edge-inside (a .l .capacity) (a .l .pool) (a .s .now) _ _ (c .before .loop .inv .1), omega arith))
+    (c .before .before .before .before .pre .0, edge-inside (a .l .capacity) (a .l .pool) (a .s .now) _ _ (c .before .loop .inv .1))
+
+is-full-requires : tie.Need-is-full-requires Inv-loop μ-loop
+is-full-requires c κs = search needs
 
 sub-child : tie.Need-sub-child Inv-loop μ-loop
 sub-child c =
-    let a = c .before .before .before .before .before .before .before .args in
-    omega (arith, edge-turn (a .l .capacity) (a .l .pool) (a .s .now) _ _ (c .before .before .before .before .loop .inv .1) (omega (arith, c .before .before .before .loop-test .taken)) .0, c .before .before .part2 .ensures)
+    let a = c .before .before .before .before .before .before .before .before .args in
+    let e = ap (λ (x : RowPageIndexNodeHeader). x .count) (c .before .before .before .header .ensures) in
+    omega (arith, e, edge-turn (a .l .capacity) (a .l .pool) (a .s .now) _ _ (c .before .before .before .before .before .loop .inv .1) (omega (arith, c .before .before .before .before .loop-test .taken)) .0)
 
 child-requires : tie.Need-child-requires Inv-loop μ-loop
 child-requires c κs =
-    let a = c .before .before .before .before .before .before .before .args in
-    let q = edge-turn (a .l .capacity) (a .l .pool) (a .s .now) _ _ (c .before .before .before .before .loop .inv .1) (omega (arith, c .before .before .before .loop-test .taken)) in
-    (c .before .before .before .before .before .before .before .pre .0, (edge-inside (a .l .capacity) (a .l .pool) (a .s .now) _ _ (c .before .before .before .before .loop .inv .1), omega (arith, c .before .before .part2 .ensures, q .0, q .1)))
+    let a = c .before .before .before .before .before .before .before .before .args in
+    let e = ap (λ (x : RowPageIndexNodeHeader). x .count) (c .before .before .before .header .ensures) in
+    let q = edge-turn (a .l .capacity) (a .l .pool) (a .s .now) _ _ (c .before .before .before .before .before .loop .inv .1) (omega (arith, c .before .before .before .before .loop-test .taken)) in
+    (c .before .before .before .before .before .before .before .before .pre .0, (edge-inside (a .l .capacity) (a .l .pool) (a .s .now) _ _ (c .before .before .before .before .before .loop .inv .1), omega (arith, e, q .0, q .1)))
 
 sub-h : tie.Need-sub-h Inv-loop μ-loop
 sub-h c = search needs
@@ -51,27 +60,47 @@ loop-less c = search needs
 
 loop-again : tie.Need-loop-again Inv-loop μ-loop
 loop-again c =
-    let a = c .before .before .before .before .before .before .before .before .args in
-    let e = c .before .before .before .part2 .ensures in
-    let q = edge-turn (a .l .capacity) (a .l .pool) (a .s .now) _ _ (c .before .before .before .before .before .loop .inv .1) (omega (arith, c .before .before .before .before .loop-test .taken)) in (
+    let a = c .before .before .before .before .before .before .before .before .before .args in
+    let C = a .l .capacity in
+    let w = a .s .now in
+    let n = c .before .before .before .before .before .before .loop .n .0 in
+    let e = ap (λ (x : RowPageIndexNodeHeader). x .count) (c .before .before .before .before .header .ensures) in
+    let f : c .before .before .before .is-full .result ≡ leb C (count C w n) = c .before .before .before .is-full .ensures ∙ ap (leb C) e in
+    let up : 0 < c .before .before .before .before .before .before .loop .h = c .before .before .before .before .before .loop-test .taken in
+    let q = edge-turn C (a .l .pool) w _ _ (c .before .before .before .before .before .before .loop .inv .1) up in (
       omega arith,
       rw (c .child .ensures, e) (q .2),
-      c .before .before .before .before .before .loop .inv .2 ∙ ⊎-elim
-          (λ w. room-here _ _ _ _ _ (omega (arith, c .before .before .before .before .loop-test .taken)) (rw e at (w .0 .taken)) ∙ rw (w .1, c .child .ensures, e))
-          (λ w. room-full _ _ _ _ _ (omega (arith, c .before .before .before .before .loop-test .taken)) (rw e at (w .0 .left)) ∙ rw (w .1, c .child .ensures, e))
-          (c .before .if1 .came),
+      c .before .before .before .before .before .before .loop .inv .2 ∙ ⊎-elim
+          (λ v. room-here C w _ n _ up (leb-false C (count C w n) (sym f ∙ not-true _ (v .0 .taken))) ∙ rw (v .1, c .child .ensures, e))
+          (λ v. room-full C w _ n _ up (leb-true C (count C w n) (sym f ∙ not-false _ (v .0 .left))) ∙ rw (v .1, c .child .ensures, e))
+          (c .before .before .if1 .came),
     )
 
-part-requires-3 : tie.Need-part-requires-3 Inv-loop μ-loop
-part-requires-3 c κs =
+header-requires-2 : tie.Need-header-requires-2 Inv-loop μ-loop
+header-requires-2 c κs =
     let a = c .before .before .before .before .args in
-    (c .before .before .before .before .pre .0, (edge-inside (a .l .capacity) (a .l .pool) (a .s .now) _ _ (c .before .loop .inv .1), omega arith))
+    (c .before .before .before .before .pre .0, edge-inside (a .l .capacity) (a .l .pool) (a .s .now) _ _ (c .before .loop .inv .1))
+
+is-full-requires-2 : tie.Need-is-full-requires-2 Inv-loop μ-loop
+is-full-requires-2 c κs = search needs
 
 returns : tie.Need-returns Inv-loop μ-loop
-returns c = sym (c .before .before .before .before .loop .inv .2 ∙ leaf-here _ _ _ _ _ (omega (arith, c .before .before .before .loop-test .left)) (rw (c .before .before .part3 .ensures) at (c .if2 .taken)))
+returns c =
+    let a = c .before .before .before .before .before .before .before .args in
+    let C = a .l .capacity in
+    let w = a .s .now in
+    let n = c .before .before .before .before .loop .n .0 in
+    let f : c .before .is-full2 .result ≡ leb C (count C w n) = c .before .is-full2 .ensures ∙ ap (λ (x : RowPageIndexNodeHeader). leb C (x .count)) (c .before .before .header2 .ensures) in
+    sym (c .before .before .before .before .loop .inv .2 ∙ leaf-here C w _ n _ (omega (arith, c .before .before .before .loop-test .left)) (leb-false C (count C w n) (sym f ∙ not-true _ (c .if2 .taken))))
 
 returns-2 : tie.Need-returns-2 Inv-loop μ-loop
-returns-2 c = sym (c .before .before .before .before .loop .inv .2 ∙ leaf-full _ _ _ _ _ (omega (arith, c .before .before .before .loop-test .left)) (rw (c .before .before .part3 .ensures) at (c .if2 .left)))
+returns-2 c =
+    let a = c .before .before .before .before .before .before .before .args in
+    let C = a .l .capacity in
+    let w = a .s .now in
+    let n = c .before .before .before .before .loop .n .0 in
+    let f : c .before .is-full2 .result ≡ leb C (count C w n) = c .before .is-full2 .ensures ∙ ap (λ (x : RowPageIndexNodeHeader). leb C (x .count)) (c .before .before .header2 .ensures) in
+    sym (c .before .before .before .before .loop .inv .2 ∙ leaf-full C w _ n _ (omega (arith, c .before .before .before .loop-test .left)) (leb-true C (count C w n) (sym f ∙ not-false _ (c .if2 .left))))
 
 pub find-room-spec : {M : Type 1} → statement M
 find-room-spec =
@@ -80,14 +109,16 @@ find-room-spec =
     Inv-loop
     μ-loop
     part-requires
-    add-t10
+    add-t12
     loop-holds
-    part-requires-2
+    header-requires
+    is-full-requires
     sub-child
     child-requires
     sub-h
     loop-less
     loop-again
-    part-requires-3
+    header-requires-2
+    is-full-requires-2
     returns
     returns-2)

@@ -4,12 +4,14 @@ use mathlib.Core.Path.{_≡_, refl, sym, ap, _∙_}
 use mathlib.Core.Bool.{false≢true}
 use mathlib.Core.List.{[], _++_}
 use native.Mathlib.Omega.{arith}
+use borrow.Author.Tests.{not-true, not-false}
 use native.Mathlib.Nat.{sub-zero}
 use lib.ListN.{length, length-set}
+use Rattle.model.specs.Reading.{occ}
 use Rattle.model.specs.Append.{chainSound, firsts, past}
 use Rattle.pool.specs.Write.{listed}
 use Rattle.pool.proofs.Turns.{turn, stop}
-use Rattle.pool.proofs.Links.{Link, listed-set, linked, broken, firsts-turn, firsts-done}
+use Rattle.pool.proofs.Links.{link-of, link-is, listed-set, linked, broken, firsts-turn, firsts-done}
 use Rattle.pool.proofs.chain.read_chain.Statement.{statement}
 use Rattle.pool.proofs.chain.read_chain.Tie as tie
 
@@ -27,35 +29,28 @@ loop-holds c = (omega arith, refl, rw sub-zero, rw sub-zero, rw sub-zero)
 
 returns : tie.Need-returns Inv-loop μ-loop
 returns c =
-    let t = c .before .before .before in
-    broken _ _ _ _ _ _ _ (t .loop-test .taken) (t .before .loop .inv .2) (λ p. omega (arith, p .inside))
+    let t = c .before .before in
+    broken _ _ _ _ _ _ _ (t .loop-test .taken) (t .before .loop .inv .2) (λ p. false≢true (sym (sym (c .before .is-link .ensures) ∙ not-true _ (c .if1 .taken)) ∙ link-is _ _ _ _ _ p))
 
-part-requires : tie.Need-part-requires Inv-loop μ-loop
-part-requires c κs = search needs
-
-returns-2 : tie.Need-returns-2 Inv-loop μ-loop
-returns-2 c =
-    let d = c .before in
-    let t = d .before .before .before .before in
-    broken _ _ _ _ _ _ _ (t .loop-test .taken) (t .before .loop .inv .2) (λ p. c .if2 .taken (d .part .ensures ∙ p .marked))
-
-part-requires-2 : tie.Need-part-requires-2 Inv-loop μ-loop
-part-requires-2 c κs = search needs
-
-returns-3 : tie.Need-returns-3 Inv-loop μ-loop
-returns-3 c =
-    let d = c .before .before in
-    let t = d .before .before .before .before .before .before in
-    broken _ _ _ _ _ _ _ (t .loop-test .taken) (t .before .loop .inv .2) (λ p. omega (arith, d .part2 .ensures, p .next))
+is-link-requires : tie.Need-is-link-requires Inv-loop μ-loop
+is-link-requires c κs = search needs
 
 holds-requires : tie.Need-holds-requires Inv-loop μ-loop
 holds-requires c κs = search needs
 
-returns-4 : tie.Need-returns-4 Inv-loop μ-loop
-returns-4 c =
+returns-2 : tie.Need-returns-2 Inv-loop μ-loop
+returns-2 c =
     let d = c .before in
-    let t = d .before .before .before .before .before .before .before .before .before in
-    broken _ _ _ _ _ _ _ (t .loop-test .taken) (t .before .loop .inv .2) (λ p. false≢true (rw (c .if4 .taken) at (d .holds .ensures) ∙ p .new))
+    let t = c .before .before .before .before in
+    broken _ _ _ _ _ _ _ (t .loop-test .taken) (t .before .loop .inv .2) (λ p. false≢true (rw (c .if2 .taken) at (d .holds .ensures) ∙ p .new))
+
+part-requires : tie.Need-part-requires Inv-loop μ-loop
+unfolding occ
+part-requires c κs =
+    let a = c .before .before .before .before .before .before .before .args in
+    let g = sym (c .before .before .before .is-link .ensures) ∙ not-false _ (c .before .before .if1 .left) in
+    let p = link-of (a .l .capacity) (a .l .pool) (a .s .now) (c .before .before .before .before .before .loop .n .0) [] g refl in
+    (c .before .before .before .before .before .before .before .pre .0, (p .inside, omega arith))
 
 mul-nodes : tie.Need-mul-nodes Inv-loop μ-loop
 mul-nodes c = search needs
@@ -72,21 +67,13 @@ loop-less c = search needs
 loop-again : tie.Need-loop-again Inv-loop μ-loop
 unfolding past
 loop-again c =
-    let d = c .before in
-    let e = d .before .before .before in
-    let f = e .before .before in
-    let t = f .before .before .before .before in
-    let l = t .before .loop in
+    let t = c .before .before .before .before .before in
+    let l = c .before .before .before .before .before .before .loop in
     let seen = listed (l .nodes) 0 (l .i) in
-    let next = e .part2 .ensures in
+    let next = c .part .ensures in
     let more = listed-set (l .nodes) (l .i) (l .n) (omega arith) in
-    let p : Link _ _ _ (l .n .0) seen =
-    record {
-      inside = f .before .if1 .left;
-      marked = sym (f .part .ensures) ∙ e .before .if2 .left;
-      next = omega (arith, next);
-      new = sym (rw (c .if4 .left) at (d .holds .ensures));
-    } in (
+    let g = sym (c .before .before .before .before .is-link .ensures) ∙ not-false _ (c .before .before .before .if1 .left) in
+    let p = link-of _ _ _ (l .n .0) seen g (sym (rw (c .before .if2 .left) at (c .before .before .holds .ensures))) in (
       omega arith,
       length-set (l .nodes) (l .i) (l .n) ∙ l .inv .1,
       l .inv .2 ∙ linked _ _ _ _ _ _ _ (t .loop-test .taken) p ∙ rw (more, next),
@@ -94,9 +81,9 @@ loop-again c =
       l .inv .4 ∙ turn (past _ _ _) _ _ (t .loop-test .taken) ∙ rw next,
     )
 
-returns-5 : tie.Need-returns-5 Inv-loop μ-loop
+returns-3 : tie.Need-returns-3 Inv-loop μ-loop
 unfolding chainSound past
-returns-5 c =
+returns-3 c =
     let l = c .before .loop in
     let all : l .i ≡ c .before .before .before .args .k = omega arith in (
       sym (l .inv .2 ∙ stop (chainSound _ _ _ _ _) _ _ (c .loop-test .left)),
@@ -110,16 +97,14 @@ read-chain-spec =
     Inv-loop
     μ-loop
     loop-holds
+    is-link-requires
     returns
-    part-requires
-    returns-2
-    part-requires-2
-    returns-3
     holds-requires
-    returns-4
+    returns-2
     mul-nodes
     array-set-from-nodes
+    part-requires
     add-i
     loop-less
     loop-again
-    returns-5)
+    returns-3)
