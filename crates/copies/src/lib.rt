@@ -31,7 +31,7 @@ pub struct Copies {
 }
 
 // How many entries go of the node i levels below the root: below the edge none.
-pub fn gone(depth: usize, i: usize, index: u64) -> u64
+fn gone(depth: usize, i: usize, index: u64) -> u64
     requires { ⌜ (depth ≤ 32) × (i < 32) × (i < depth → 1 ≤ index) ⌝ }
     ensures { λ r. ⌜ r ≡ goneAt depth i index ⌝ }
 {

@@ -52,7 +52,7 @@ pub fn choose(
 }
 
 // From node root of this height, which no entry leads to.
-pub fn find_below(
+fn find_below(
     l: Layout,
     s: &[u64],
     root: NodeNo,

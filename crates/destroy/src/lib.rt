@@ -34,7 +34,7 @@ use survey::Survey;
 use walk::turn;
 
 // The page ids of a leaf go into the list from place at on; the place after them. A branch has none.
-pub fn copy_leaf(l: Layout, s: &[u64], n: NodeNo, pages: &mut [u64], at: usize) -> usize
+fn copy_leaf(l: Layout, s: &[u64], n: NodeNo, pages: &mut [u64], at: usize) -> usize
     requires { ⌜ Fits l (now s) ⌝ }
     requires { ⌜ (n .0 < l .pool) × (count (l .capacity) (now s) (n .0) ≤ l .capacity) × (at + length (pagesAt (l .capacity) (now s) (n .0)) ≤ length (now pages)) ⌝ }
     ensures after { λ r. ⌜ r ≡ at + length (pagesAt (l .capacity) (now (s .entry)) (n .0)) ⌝ }
@@ -57,7 +57,7 @@ pub fn copy_leaf(l: Layout, s: &[u64], n: NodeNo, pages: &mut [u64], at: usize) 
 }
 
 // The page ids of a sound tree go into the list, left to right: those of a leaf as the walk leaves it.
-pub fn copy_tree(l: Layout, s: &[u64], root: NodeNo, pages: &mut [u64])
+fn copy_tree(l: Layout, s: &[u64], root: NodeNo, pages: &mut [u64])
     requires { ⌜ Releasable (l .capacity) (l .pool) (now s) (root .0) 0 ⌝ }
     requires { ⌜ length (rootEntries (l .capacity) (now s) (root .0)) ≤ length (now pages) ⌝ }
     ensures { λ _. ⌜ now (pages .exit) ≡ fill (now (pages .entry)) 0 (pageIds (rootEntries (l .capacity) (now (s .entry)) (root .0))) ⌝ }
@@ -96,7 +96,7 @@ pub fn copy_tree(l: Layout, s: &[u64], root: NodeNo, pages: &mut [u64])
 }
 
 // A sound tree of k nodes: its page ids go into the list, its nodes into the chain, and the root word closes the store.
-pub fn destroy_tree(l: Layout, s: &mut [u64], root: NodeNo, k: u64, pages: &mut [u64])
+fn destroy_tree(l: Layout, s: &mut [u64], root: NodeNo, k: u64, pages: &mut [u64])
     requires { ⌜ Releasable (l .capacity) (l .pool) (now s) (root .0) k ⌝ }
     requires { ⌜ (k ≡ length (rootNodes (l .capacity) (now s) (root .0))) × (length (rootEntries (l .capacity) (now s) (root .0)) ≤ length (now pages)) ⌝ }
     ensures words { λ _. ⌜ now (s .exit) ≡ releasedWords (l .capacity) (l .pool) (now (s .entry)) (rootNodes (l .capacity) (now (s .entry)) (root .0)) ⌝ }
@@ -108,7 +108,7 @@ pub fn destroy_tree(l: Layout, s: &mut [u64], root: NodeNo, k: u64, pages: &mut 
 }
 
 // Whether a sound tree has a row below the pivot: its first is the lowest.
-pub fn starts_below(l: Layout, s: &[u64], root: NodeNo, entries: u64, pivot: RowID) -> bool
+fn starts_below(l: Layout, s: &[u64], root: NodeNo, entries: u64, pivot: RowID) -> bool
     requires { ⌜ Fits l (now s) ⌝ }
     requires { ⌜ root .0 < l .pool ⌝ }
     ensures { λ r. ⌜ r ≡ startsBelow (l .capacity) (now (s .entry)) (root .0) entries (pivot .0) ⌝ }
@@ -121,7 +121,7 @@ pub fn starts_below(l: Layout, s: &[u64], root: NodeNo, entries: u64, pivot: Row
 }
 
 // A store whose nodes are all sound, with the counts of its tree.
-pub fn destroy_sound(
+fn destroy_sound(
     h: StoreHeader,
     s: &mut [u64],
     counts: Counts,
@@ -171,7 +171,7 @@ pub fn destroy(s: &mut [u64], pivot: RowID, pages: &mut [u64]) -> Destroyed
 }
 
 // The empty form, on an open store.
-pub fn destroy_empty_root(h: StoreHeader, s: &mut [u64]) -> Destroyed
+fn destroy_empty_root(h: StoreHeader, s: &mut [u64]) -> Destroyed
     requires { ⌜ opened (now s) ≡ Open h ⌝ }
     ensures answer { λ r. ⌜ destroyed r ≡ destroyEmpty (now (s .entry)) .answer ⌝ }
     ensures words { λ r. ⌜ now (s .exit) ≡ destroyEmpty (now (s .entry)) .words ⌝ }

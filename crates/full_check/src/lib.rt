@@ -20,7 +20,7 @@ use survey::Counts;
 use survey::Survey;
 
 // Whether k free nodes from head on lead to the end of the chain.
-pub fn follow_chain(l: Layout, s: &[u64], head: NodeNo, k: u64) -> bool
+fn follow_chain(l: Layout, s: &[u64], head: NodeNo, k: u64) -> bool
     requires { ⌜ Fits l (now s) ⌝ }
     ensures { λ r. ⌜ r ≡ chainEnds (l .capacity) (l .pool) (now (s .entry)) (head .0) k ⌝ }
 {
@@ -41,7 +41,7 @@ pub fn follow_chain(l: Layout, s: &[u64], head: NodeNo, k: u64) -> bool
 }
 
 // After a sound tree with these counts: whether the chain was one, and all nodes are held.
-pub fn check_counts(h: StoreHeader, counts: Counts, chain: bool) -> Checked
+fn check_counts(h: StoreHeader, counts: Counts, chain: bool) -> Checked
     requires { ⌜ h .«free_count» ≤ h .layout .pool ⌝ }
     ensures { λ r. ⌜ checkedAnswer r ≡ ending h counts chain ⌝ }
 {
@@ -61,7 +61,7 @@ pub fn check_counts(h: StoreHeader, counts: Counts, chain: bool) -> Checked
 
 // An open store. The chain is followed first, though it is told last: it waits for one load after the other, and after the
 // long call of the survey the compiler kept the words' address where such loads took nearly twice as long.
-pub fn check_open(h: StoreHeader, s: &[u64]) -> Checked
+fn check_open(h: StoreHeader, s: &[u64]) -> Checked
     requires { ⌜ opened (now s) ≡ Open h ⌝ }
     ensures { λ r. ⌜ checkedAnswer r ≡ fullCheck (now (s .entry)) ⌝ }
 {

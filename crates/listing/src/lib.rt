@@ -34,7 +34,7 @@ impl LeafEntries {
 }
 
 // Entry i as a record.
-pub fn entry_at(s: &[u64], e: LeafEntries, i: usize) -> PageEntry
+fn entry_at(s: &[u64], e: LeafEntries, i: usize) -> PageEntry
     requires { ⌜ Fits (e .layout) (now s) × ((e .leaf .0 < e .layout .pool) × (i < e .layout .capacity)) ⌝ }
     ensures { λ r. ⌜ r ≡ pageEntry (row (e .layout .capacity) (now (s .entry)) (e .leaf .0) i) (child (e .layout .capacity) (now (s .entry)) (e .leaf .0) i) ⌝ }
 {

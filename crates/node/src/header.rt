@@ -21,7 +21,7 @@ pub enum Opened {
 }
 
 // Whether capacity, pool and length fit, and the other words are at most the pool.
-pub fn header_ok(s: &[u64]) -> bool
+fn header_ok(s: &[u64]) -> bool
     ensures { λ r. ⌜ r ≡ headerOk (now (s .entry)) ⌝ }
 {
     if s.len() < 8 {

@@ -25,7 +25,7 @@ pub enum NodeTest {
 }
 
 // Whether a node of this height may end so, its last row being last.
-pub fn end_sound(height: u64, next: Limit, end: RowID, last: RowID) -> bool
+fn end_sound(height: u64, next: Limit, end: RowID, last: RowID) -> bool
     ensures { λ r. ⌜ r ≡ endSound height (limitOf next) (end .0) (last .0) ⌝ }
 {
     if height == 0 {
@@ -48,7 +48,7 @@ pub fn end_sound(height: u64, next: Limit, end: RowID, last: RowID) -> bool
 }
 
 // Whether the rows of node n rise strictly. Four rows a turn: one compare and one load each, with a short loop body.
-pub fn rises(l: Layout, s: &[u64], n: NodeNo, count: u64) -> bool
+fn rises(l: Layout, s: &[u64], n: NodeNo, count: u64) -> bool
     requires { ⌜ Fits l (now s) ⌝ }
     requires { ⌜ (n .0 < l .pool) × (1 ≤ count) × (count ≤ l .capacity) ⌝ }
     ensures { λ r. ⌜ r ≡ rising (pairsFrom (l .capacity) (now (s .entry)) (λ (x : ℕ). x) (n .0) 0 count) ⌝ }
@@ -87,7 +87,7 @@ pub fn rises(l: Layout, s: &[u64], n: NodeNo, count: u64) -> bool
 }
 
 // The first of the child numbers of node n that is not below the pool; the count where all are.
-pub fn first_out(l: Layout, s: &[u64], n: NodeNo, count: u64) -> u64
+fn first_out(l: Layout, s: &[u64], n: NodeNo, count: u64) -> u64
     requires { ⌜ Fits l (now s) ⌝ }
     requires { ⌜ (n .0 < l .pool) × (count ≤ l .capacity) ⌝ }
     ensures { λ r. ⌜ r ≡ firstOut (l .capacity) (l .pool) (now (s .entry)) (n .0) 0 count ⌝ }

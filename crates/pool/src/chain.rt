@@ -39,7 +39,7 @@ pub fn free_node(l: Layout, s: &mut [u64], n: NodeNo)
 }
 
 // Whether n is among the first k nodes.
-pub fn holds(nodes: [NodeNo; 32], k: usize, n: NodeNo) -> bool
+fn holds(nodes: [NodeNo; 32], k: usize, n: NodeNo) -> bool
     requires { ⌜ k ≤ 32 ⌝ }
     ensures { λ r. ⌜ not r ≡ eqb (occ (n .0) (listed nodes 0 k)) 0 ⌝ }
 {

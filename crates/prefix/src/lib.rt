@@ -60,7 +60,7 @@ fn entry_end(l: Layout, s: &[u64], n: NodeNo, i: u64) -> RowID
 }
 
 // The entries of node n, where it is a leaf, against the ids from this place on.
-pub fn scan_node(
+fn scan_node(
     l: Layout,
     s: &[u64],
     n: NodeNo,
@@ -112,7 +112,7 @@ fn finish(end: RowID, named: usize, reached: RowID) -> Named
 }
 
 // The leaves below a node that was entered, against the ids from this place on. The path is stored to in place.
-pub fn scan_below(
+fn scan_below(
     l: Layout,
     s: &[u64],
     root: NodeNo,

@@ -18,7 +18,7 @@ use node::layout::Layout;
 use walk::turn;
 
 // The first k children of node n, each with all below it; the entries of a leaf lead to no nodes.
-pub fn free_children(l: Layout, s: &mut [u64], n: NodeNo, k: u64)
+fn free_children(l: Layout, s: &mut [u64], n: NodeNo, k: u64)
     requires { ⌜ Ready (l .capacity) (l .pool) (now s) (height (l .capacity) (now s) (n .0)) (n .0) 0 k ⌝ }
     ensures { λ _. ⌜ now (s .exit) ≡ freeAll (l .capacity) (now (s .entry)) (firstNodes (l .capacity) (now (s .entry)) (height (l .capacity) (now (s .entry)) (n .0)) (n .0) k) ⌝ }
 {
@@ -54,7 +54,7 @@ pub fn free_gone(l: Layout, s: &mut [u64], edge: Path)
 }
 
 // How many nodes the tree from root has, which is sound.
-pub fn count_nodes(l: Layout, s: &[u64], root: NodeNo) -> u64
+fn count_nodes(l: Layout, s: &[u64], root: NodeNo) -> u64
     requires { ⌜ Whole.Ready (l .capacity) (l .pool) (now s) (root .0) 0 ⌝ }
     requires { ⌜ AllSound (l .capacity) (l .pool) (suc (height (l .capacity) (now s) (root .0))) (rootTree (l .capacity) (now s) (root .0)) (start (l .capacity) (now s) (root .0)) Open × (length (rootNodes (l .capacity) (now s) (root .0)) ≤ 65535) ⌝ }
     ensures { λ r. ⌜ r ≡ length (rootNodes (l .capacity) (now (s .entry)) (root .0)) ⌝ }
@@ -94,7 +94,7 @@ pub fn count_nodes(l: Layout, s: &[u64], root: NodeNo) -> u64
 }
 
 // How many nodes lie below the first k entries of node n.
-pub fn count_children(l: Layout, s: &[u64], n: NodeNo, k: u64) -> u64
+fn count_children(l: Layout, s: &[u64], n: NodeNo, k: u64) -> u64
     requires { ⌜ Fits l (now s) ⌝ }
     requires { ⌜ (freeCount (now s) ≤ 65535) × Beside (l .capacity) (l .pool) (now s) (height (l .capacity) (now s) (n .0)) (n .0) k ⌝ }
     ensures is { λ r. ⌜ r ≡ length (nodesAt (l .capacity) (now (s .entry)) (height (l .capacity) (now (s .entry)) (n .0)) (n .0) 0 k) ⌝ }

@@ -49,7 +49,7 @@ pub struct Surveys {
 }
 
 // k and some more, up to what is told apart.
-pub fn add(k: u64, some: u64) -> u64
+fn add(k: u64, some: u64) -> u64
     requires { ⌜ some ≤ 4094 ⌝ }
     ensures { λ r. ⌜ r ≡ more k some ⌝ }
 {
@@ -57,7 +57,7 @@ pub fn add(k: u64, some: u64) -> u64
 }
 
 // Node n counted.
-pub fn count_node(l: Layout, s: &[u64], n: NodeNo, k: Counts) -> Counts
+fn count_node(l: Layout, s: &[u64], n: NodeNo, k: Counts) -> Counts
     requires { ⌜ Fits l (now s) ⌝ }
     requires { ⌜ (n .0 < l .pool) × (count (l .capacity) (now s) (n .0) ≤ l .capacity) ⌝ }
     ensures { λ r. ⌜ r ≡ counted (l .capacity) (now (s .entry)) (n .0) k ⌝ }
@@ -82,7 +82,7 @@ pub fn count_node(l: Layout, s: &[u64], n: NodeNo, k: Counts) -> Counts
 }
 
 // The first branch whose end is wrong, once sound node n was looked at. Number P stands for none.
-pub fn look_at_end(l: Layout, s: &[u64], n: NodeNo, next: Limit, wrong: NodeNo) -> NodeNo
+fn look_at_end(l: Layout, s: &[u64], n: NodeNo, next: Limit, wrong: NodeNo) -> NodeNo
     requires { ⌜ Fits l (now s) ⌝ }
     requires { ⌜ n .0 < l .pool ⌝ }
     ensures { λ r. ⌜ r .0 ≡ wrongEnd (l .capacity) (l .pool) (now (s .entry)) (n .0) (limitOf next) (wrong .0) ⌝ }
@@ -100,7 +100,7 @@ pub fn look_at_end(l: Layout, s: &[u64], n: NodeNo, next: Limit, wrong: NodeNo) 
 }
 
 // Both readings, by the one without ends and the first wrong end before its last node.
-pub fn both(l: Layout, nodes: Survey, wrong: NodeNo) -> Surveys
+fn both(l: Layout, nodes: Survey, wrong: NodeNo) -> Surveys
     ensures nodes { λ r. ⌜ r .nodes ≡ nodes ⌝ }
     ensures ends { λ r. ⌜ r .ends ≡ withEnds (l .pool) (wrong .0) nodes ⌝ }
 {
@@ -123,7 +123,7 @@ pub fn limit(bounded: bool, row: u64) -> Limit
     Limit::Open
 }
 
-pub fn is_bounded(next: Limit) -> bool
+fn is_bounded(next: Limit) -> bool
     ensures { λ r. ⌜ r ≡ bounded next ⌝ }
 {
     match next {
@@ -143,7 +143,7 @@ pub fn row_of(next: Limit) -> u64
 
 // What is left below a node that was entered, with the counts and the first wrong end so far. The path is stored to in
 // place: a copy of it for each node would cost more than the node's test.
-pub fn survey_below(
+fn survey_below(
     l: Layout,
     s: &[u64],
     root: NodeNo,

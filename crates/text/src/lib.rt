@@ -35,7 +35,7 @@ pub fn put_bytes(out: &mut [u8], at: usize, bytes: &[u8]) -> usize
 }
 
 // The decimal digits of a number.
-pub fn put_decimal(out: &mut [u8], at: usize, n: u64) -> usize
+fn put_decimal(out: &mut [u8], at: usize, n: u64) -> usize
     ensures { λ r. ⌜ Puts (now (out .entry)) at (decimal n) (now (out .exit)) r ⌝ }
 {
     let mut digits = [0u8; 20];
@@ -44,7 +44,7 @@ pub fn put_decimal(out: &mut [u8], at: usize, n: u64) -> usize
 }
 
 // A number after a space.
-pub fn put_number(out: &mut [u8], at: usize, n: u64) -> usize
+fn put_number(out: &mut [u8], at: usize, n: u64) -> usize
     ensures { λ r. ⌜ Puts (now (out .entry)) at (space ∷ decimal n) (now (out .exit)) r ⌝ }
 {
     let place = put_byte(out, at, b' ');

@@ -17,7 +17,7 @@ use pool::chain;
 use pool::write;
 
 // Node n loses its first k entries; what is left starts at the end.
-pub fn trim_node(l: Layout, s: &mut [u64], n: NodeNo, k: u64, end: RowID)
+fn trim_node(l: Layout, s: &mut [u64], n: NodeNo, k: u64, end: RowID)
     requires { ⌜ Fits l (now s) ⌝ }
     requires { ⌜ (n .0 < l .pool) × (k ≤ count (l .capacity) (now s) (n .0)) × (count (l .capacity) (now s) (n .0) ≤ l .capacity) ⌝ }
     ensures { λ _. ⌜ now (s .exit) ≡ trimmed (l .capacity) (now (s .entry)) (n .0) k (end .0) ⌝ }
