@@ -77,8 +77,21 @@ fn prune(r: &mut Random, memory: &Memory) -> Vec<u64> {
     [&[start, end], &ids[..]].concat()
 }
 
+/// A tree that fills the memory at C = 2 or 3, and walks over it: a listing longer than a pipe holds.
+fn deep(r: &mut Random) -> Vec<Record> {
+    let capacity = 2 + r.below(2);
+    let nodes = (WORDS - 8) / (4 + 2 * capacity);
+    let mut records = vec![Record { kind: 1, words: vec![capacity, nodes, random::start(r)] }];
+    records.extend((0..700).map(|k| Record { kind: 2, words: vec![1 + r.below(5), k] }));
+    records.extend((0..20 + r.below(40)).map(|_| Record { kind: 5, words: vec![r.below(2)] }));
+    records
+}
+
 /// Mostly one create and many appends, so that the trees grow.
 fn records(r: &mut Random) -> Vec<Record> {
+    if r.below(200) == 0 {
+        return deep(r);
+    }
     let mut memory = Memory::new();
     let mut records = Vec::new();
     let length = match r.below(40) {
@@ -117,11 +130,6 @@ fn written(records: &[Record]) -> Vec<u8> {
     bytes
 }
 
-/// The records but for one of them, in whose place these bytes stand.
-fn with(records: &[Record], place: usize, bytes: &[u8]) -> Vec<u8> {
-    [&written(&records[..place]), bytes, &written(&records[place + 1..])].concat()
-}
-
 /// A length, a kind, and so many bytes.
 fn wrong(length: u64, kind: u16, body: &[u8]) -> Vec<u8> {
     [&(length as u32).to_le_bytes()[..], &kind.to_le_bytes(), body].concat()
@@ -143,36 +151,34 @@ const SORTS: [&str; 9] = [
     "long records",
 ];
 
-fn input(r: &mut Random, sort: usize) -> Vec<u8> {
-    if sort == 0 {
-        let length = r.below(301);
-        // Any bytes, or small ones, which make lengths and kinds that may be good.
-        return match r.below(2) {
-            0 => bytes(r, length),
-            _ => (0..length).map(|_| if r.below(3) > 0 { 0 } else { r.below(32) as u8 }).collect(),
-        };
+/// Any bytes, or small ones, which make lengths and kinds that may be good.
+fn random_bytes(r: &mut Random) -> Vec<u8> {
+    let length = r.below(301);
+    match r.below(2) {
+        0 => bytes(r, length),
+        _ => (0..length).map(|_| if r.below(3) > 0 { 0 } else { r.below(32) as u8 }).collect(),
     }
-    let mut all = records(r);
-    let place = r.below(all.len() as u64 + 1) as usize;
-    if place == all.len() {
-        all.push(Record { kind: 3, words: vec![edge(r)] });
-    }
-    let chosen = all[place].clone();
-    let body: Vec<u8> = chosen.words.iter().flat_map(|w| w.to_le_bytes()).collect();
+}
+
+/// A good script, changed as its sort says.
+fn changed(r: &mut Random, sort: usize, mut script: Vec<u8>) -> Vec<u8> {
     match sort {
-        2 => {
-            let mut script = written(&all);
-            script.truncate(r.below(script.len() as u64 + 1) as usize);
-            script
-        }
+        2 => script.truncate(r.below(script.len() as u64 + 1) as usize),
         3 => {
-            let mut script = written(&all);
             for _ in 0..1 + r.below(4) {
                 let at = r.below(script.len() as u64) as usize;
                 script[at] = if r.below(2) == 0 { r.word() as u8 } else { script[at] ^ (1 << r.below(8)) };
             }
-            script
         }
+        _ => {}
+    }
+    script
+}
+
+/// What stands in place of a record of this kind and body.
+fn instead(r: &mut Random, sort: usize, kind: u16, mut body: Vec<u8>) -> Vec<u8> {
+    let length = 2 + body.len() as u64;
+    match sort {
         4 => {
             let length = match r.below(12) {
                 k @ 0..4 => k,
@@ -181,37 +187,49 @@ fn input(r: &mut Random, sort: usize) -> Vec<u8> {
                 6 => u32::MAX as u64,
                 7 => r.below(4200),
                 8 => r.word() >> 32,
-                _ => (2 + body.len() as u64).wrapping_add(r.below(17)).wrapping_sub(8),
+                _ => length.wrapping_add(r.below(17)).wrapping_sub(8),
             };
-            with(&all, place, &wrong(length, chosen.kind, &body))
+            wrong(length, kind, &body)
         }
-        5 => {
-            let kind = if r.below(2) == 0 { r.below(9) } else { r.word() >> r.below(64) } as u16;
-            with(&all, place, &wrong(2 + body.len() as u64, kind, &body))
-        }
+        5 => wrong(length, if r.below(2) == 0 { r.below(9) } else { r.word() >> r.below(64) } as u16, &body),
         6 => {
-            let mut body = body;
             let size = match r.below(3) {
                 0 => r.below(60),
                 1 => 8 * r.below(6),
-                _ => (body.len() as u64 + r.below(5)).saturating_sub(2),
+                _ => (length + r.below(5)).saturating_sub(4),
             };
             body.resize(size as usize, r.word() as u8);
-            with(&all, place, &wrong(2 + size, chosen.kind, &body))
+            wrong(2 + size, kind, &body)
         }
         7 => {
             let count = [0, 1, IDS - 1, IDS, r.below(IDS + 1)][r.below(5) as usize];
             let mut words = vec![r.below(30), r.below(300)];
             (0..count).for_each(|k| words.push(if r.below(2) == 0 { k } else { edge(r) }));
-            with(&all, place, &written(&[Record { kind: 4, words }]))
+            written(&[Record { kind: 4, words }])
         }
-        8 => {
+        _ => {
             let length = LONGEST as u64 - r.below(10);
-            let (kind, body) = (1 + r.below(6), bytes(r, length - 2));
-            with(&all, place, &wrong(length, kind as u16, &body))
+            let body = bytes(r, length - 2);
+            wrong(length, 1 + r.below(6) as u16, &body)
         }
-        _ => written(&all),
     }
+}
+
+fn input(r: &mut Random, sort: usize) -> Vec<u8> {
+    if sort == 0 {
+        return random_bytes(r);
+    }
+    let mut all = records(r);
+    let place = r.below(all.len() as u64 + 1) as usize;
+    if place == all.len() {
+        all.push(Record { kind: 3, words: vec![edge(r)] });
+    }
+    if sort < 4 {
+        return changed(r, sort, written(&all));
+    }
+    let body = all[place].words.iter().flat_map(|w| w.to_le_bytes()).collect();
+    let bytes = instead(r, sort, all[place].kind, body);
+    [written(&all[..place]), bytes, written(&all[place + 1..])].concat()
 }
 
 /// What the program prints for a script that comes in two pieces.
