@@ -60,7 +60,7 @@ fn compare(wanted: impl Fn(u64) -> bool) -> bool {
         }
         // A store of one node at C = 4,094 is longer than a script's memory.
         if capacity <= 64 {
-            record::scripts(&mut tally, capacity, 40);
+            record::scripts(&mut tally, capacity, if capacity < 6 { 400 } else { 40 });
         }
         if capacity % 10 == 0 {
             say(&format!("C up to {capacity}: fills, random sequences and scripts"));
