@@ -1,11 +1,13 @@
 /* The row page index for a host that holds its own store: the C functions of crates/host, in target/staticlib/libhost.a
-   (`rt staticlib host`). docs/HOST.md tells what they mean and include/example.c is a program that calls them.
+   (`rt staticlib host`); and row_page_script, a whole script in one call, of crates/script, in target/staticlib/libscript.a
+   (`rt staticlib script`). docs/HOST.md tells what they mean; include/example.c and include/script_example.c are programs
+   that call them.
 
    A store is a lent array of 8 + nodes * (4 + 2 * capacity) words. A lent array is a pointer, never null and aligned for
    uint64_t, and a length in words. Arrays lent to one call must not overlap.
 
-   Each function but row_page_index_seek returns 0, or the number of a refusal (1 to 13), and then nothing lent has changed but
-   the answer. It writes five words into `answer`, as far as they fit:
+   Each function but row_page_index_seek and row_page_script returns 0, or the number of a refusal (1 to 13), and then
+   nothing lent has changed but the answer. It writes five words into `answer`, as far as they fit:
      result:  0, how many values there are (0 to 3), the values, then 0
      refusal: its number, 1, its detail, 0, 0 */
 #ifndef ROW_PAGE_INDEX_H
@@ -54,6 +56,11 @@ void row_page_index_seek(uint64_t *cursor, size_t cursor_len, uint64_t row);
    done. Row and page of each entry go into the front of `records`, which needs 2 * capacity words. */
 uint64_t row_page_index_next(const uint64_t *words, size_t words_len, uint64_t *cursor, size_t cursor_len, uint64_t *records,
                              size_t records_len, uint64_t *answer, size_t answer_len);
+
+/* Runs a script's records in 4,096 words of its own and lists their answers, a line or more for each. The bytes of the
+   listing that fit go into the front of `out`, and the rest of `out` stays. Returns the length of the whole listing.
+   `script` and `out` are bytes of any alignment; neither is null, also where its length is 0, and they do not overlap. */
+size_t row_page_script(const uint8_t *script, size_t script_len, uint8_t *out, size_t out_len);
 
 #ifdef __cplusplus
 }

@@ -1,13 +1,17 @@
-//! Compares the listed Rust with the port: `harness` runs the whole comparison, `harness C...` that at these capacities, and
-//! `harness record FOLDER` writes a sample of the Rust's answers as a script's input and listing.
+//! Compares the listed Rust with the port: `harness` runs the whole comparison, `harness C...` that at these capacities,
+//! `harness record FOLDER` writes a sample of the Rust's answers as a script's input and listing, and
+//! `harness fuzz COUNT SEED` tries scripts, good and bad.
 // The calls of a pair compare what they give.
 #![allow(unused_must_use)]
 mod differences;
 mod exhaustive;
+mod fuzz;
+mod guarded;
 mod pair;
 mod probe;
 mod random;
 mod record;
+mod script;
 mod shape;
 mod store;
 mod tally;
@@ -54,11 +58,15 @@ fn compare(wanted: impl Fn(u64) -> bool) -> bool {
         for seed in 0..if capacity == 4094 { 8 } else { 20 } {
             random::run(&mut tally, create, capacity, seed, if capacity < 6 { 2000 } else { 300 });
         }
+        // A store of one node at C = 4,094 is longer than a script's memory.
+        if capacity <= 64 {
+            record::scripts(&mut tally, capacity, if capacity < 6 { 400 } else { 40 });
+        }
         if capacity % 10 == 0 {
-            say(&format!("C up to {capacity}: fills and random sequences"));
+            say(&format!("C up to {capacity}: fills, random sequences and scripts"));
         }
     }
-    say("fills and random sequences at every C");
+    say("fills, random sequences and scripts at every C");
     tally.print()
 }
 
@@ -74,6 +82,7 @@ fn main() -> ExitCode {
     let good = match &args.iter().map(String::as_str).collect::<Vec<_>>()[..] {
         [] => compare(|_| true),
         ["record", folder] => record::write(folder.as_ref()),
+        ["fuzz", count, seed] => fuzz::run(count.parse().unwrap(), seed.parse().unwrap()),
         numbers => compare(|c| numbers.contains(&c.to_string().as_str())),
     };
     if good { ExitCode::SUCCESS } else { ExitCode::FAILURE }

@@ -64,7 +64,7 @@ pub fn fills(tally: &mut Tally, create: Create, capacity: u64, length: u64) {
 }
 
 /// How many entries a random prune names: a few, around a node's fill, all but a few, all, or any number.
-fn named(r: &mut Random, capacity: u64, entries: u64) -> u64 {
+pub fn named(r: &mut Random, capacity: u64, entries: u64) -> u64 {
     let near = match r.below(6) {
         0 => 1 + r.below(3),
         1 => capacity * (1 + r.below(4)) + r.below(3) - 1,
@@ -76,8 +76,8 @@ fn named(r: &mut Random, capacity: u64, entries: u64) -> u64 {
     near.clamp(1, entries)
 }
 
-/// A prune with arguments near those of a prune that is accepted.
-fn odd_prune(tally: &mut Tally, pair: &mut Pair, r: &mut Random) {
+/// Arguments near those of a prune that is accepted: start, end, ids.
+pub fn odd_prune(pair: &Pair, r: &mut Random) -> (u64, u64, Vec<u64>) {
     let count = r.below(pair.entries.len() as u64 + 1);
     let (end, mut ids) = pair.prefix(count as usize);
     let (mut start, mut end) = (pair.start, end);
@@ -92,19 +92,28 @@ fn odd_prune(tally: &mut Tally, pair: &mut Pair, r: &mut Random) {
             ids[place] = ids[place].wrapping_add(r.below(2));
         }
     }
-    pair.prune(tally, start, end, &ids);
+    (start, end, ids)
+}
+
+/// A row at or beside an entry, in or past the range, or any.
+pub fn row(pair: &Pair, r: &mut Random) -> u64 {
+    let entries = pair.entries.len() as u64;
+    match r.below(3) {
+        0 if entries > 0 => pair.entries[r.below(entries) as usize].0.wrapping_add(r.below(3)).wrapping_sub(1),
+        1 => pair.start.wrapping_add(r.below(pair.end - pair.start + 10)),
+        _ => r.word() >> r.below(64),
+    }
 }
 
 fn step(tally: &mut Tally, pair: &mut Pair, r: &mut Random) {
     let (capacity, entries) = (pair.capacity, pair.entries.len() as u64);
-    let row = match r.below(3) {
-        0 if entries > 0 => pair.entries[r.below(entries) as usize].0.wrapping_add(r.below(3)).wrapping_sub(1),
-        1 => pair.start.wrapping_add(r.below(pair.end - pair.start + 10)),
-        _ => r.word() >> r.below(64),
-    };
+    let row = row(pair, r);
     match r.below(40) {
         0..4 if entries > 0 => pair.prune_first(tally, named(r, capacity, entries) as usize),
-        4..7 => odd_prune(tally, pair, r),
+        4..7 => {
+            let (start, end, ids) = odd_prune(pair, r);
+            pair.prune(tally, start, end, &ids);
+        }
         7..16 => {
             pair.find(tally, row);
         }
@@ -129,6 +138,16 @@ fn step(tally: &mut Tally, pair: &mut Pair, r: &mut Random) {
     }
 }
 
+/// A first row: 0, a small one, one near 2^62, or any.
+pub fn start(r: &mut Random) -> u64 {
+    match r.below(4) {
+        0 => 0,
+        1 => r.below(1000),
+        2 => LIMIT - r.below(100_000),
+        _ => r.below(LIMIT),
+    }
+}
+
 /// One seeded run of so many steps, in a pool that is small or large.
 pub fn run(tally: &mut Tally, create: Create, capacity: u64, seed: u64, steps: u64) {
     let mut r = Random::new(seed * 65_537 + capacity);
@@ -137,12 +156,7 @@ pub fn run(tally: &mut Tally, create: Create, capacity: u64, seed: u64, steps: u
         1 => 12 + r.below(60),
         _ => 20_000 / capacity + 60,
     };
-    let start = match r.below(4) {
-        0 => 0,
-        1 => r.below(1000),
-        2 => LIMIT - r.below(100_000),
-        _ => r.below(LIMIT),
-    };
+    let start = start(&mut r);
     let mut pair = Pair::new(tally, create, capacity, nodes, start);
     for _ in 0..steps {
         step(tally, &mut pair, &mut r);

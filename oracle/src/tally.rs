@@ -11,10 +11,12 @@ pub enum Kind {
     Release,
     Check,
     Shape,
+    /// A record of a script.
+    Script,
 }
 
-pub const KINDS: [Kind; 8] =
-    [Kind::Create, Kind::Append, Kind::Find, Kind::Prune, Kind::Walk, Kind::Release, Kind::Check, Kind::Shape];
+pub const KINDS: [Kind; 9] =
+    [Kind::Create, Kind::Append, Kind::Find, Kind::Prune, Kind::Walk, Kind::Release, Kind::Check, Kind::Shape, Kind::Script];
 
 /// The points of docs/DIFFERENCES.md, by their numbers there.
 #[derive(Debug, Clone, Copy, PartialEq, Eq, PartialOrd, Ord)]
@@ -40,7 +42,7 @@ pub const DIFFERENCES: [(Difference, &str); 8] = [
     (Difference::SeekNone, "a seek to NONE: a debug assertion of the Rust"),
 ];
 
-/// Counted for a create whose capacity is out of range.
+/// Counted for a create whose capacity is out of range, and for records before a create.
 pub const OTHER: u64 = 0;
 
 #[derive(Default)]
