@@ -11,7 +11,7 @@ mod store;
 
 /// The listed Rust at the capacities that are timed, written by oracle/rust.
 mod listed {
-    include!(concat!(env!("BENCH_LISTED"), "/all.rs"));
+    include!(concat!(env!("ORACLE_LISTED"), "/all.rs"));
 }
 
 use calls::Index;
