@@ -1,5 +1,5 @@
-//! Times of the public calls of the listed Rust and of the port, made by one program in one run. It is no test: no time
-//! fails it. What both answer has to be the same.
+//! Times of the public calls of the listed Rust and of the port at one capacity, made by one program in one run. It is no
+//! test: no time fails it. What both answer has to be the same. Each line begins with the number of the table it belongs to.
 
 #[allow(dead_code)]
 #[path = "../oracle/src/store.rs"]
@@ -9,7 +9,8 @@ mod plain;
 #[allow(dead_code)]
 mod store;
 
-/// The listed Rust at the capacities that are timed, written by oracle/rust.
+/// The listed Rust at the capacity that is timed, written by oracle/rust. One only: where several are in one program the
+/// compiler joins their functions, and then places none of them into its callers.
 mod listed {
     include!(concat!(env!("ORACLE_LISTED"), "/all.rs"));
 }
@@ -197,21 +198,19 @@ fn port_round(store: &mut Store, copy: &mut Store, c: u64, nodes: u64, work: &Wo
 }
 
 struct Measured {
-    c: u64,
-    entries: u64,
     rust: Times,
     port: Times,
 }
 
 /// Rounds of both sides in turn, the first of them not counted.
-fn measure(c: u64, entries: u64, rounds: u64) -> Measured {
-    let create = listed::ALL.iter().find(|l| l.0 == c).unwrap().1;
+fn measure(entries: u64, rounds: u64) -> Measured {
+    let [(c, create)] = listed::ALL;
     let work = Work::new(entries);
     // At C = 2 an append takes about one node; the pool has at most 65,535.
     let nodes = if c == 2 { 65_535 } else { (entries / c + entries / c / (c / 2) + 64).min(65_535) };
     let empty = || Store { words: vec![0; Store::length(c, nodes) as usize] };
     let (mut store, mut copy) = (empty(), empty());
-    let mut m = Measured { c, entries, rust: Times::default(), port: Times::default() };
+    let mut m = Measured { rust: Times::default(), port: Times::default() };
     for round in 0..=rounds {
         if round == 1 {
             (m.rust, m.port) = (Times::default(), Times::default());
@@ -236,47 +235,40 @@ const CALLS: [(&str, &str, &str); 6] = [
     ("release, a node", "release", "release"),
 ];
 
+const PLAIN: [(&str, &str, &str); 5] = [
+    ("full check, a node", "check", "check, plain"),
+    ("full check, a node; the loop reads the tree once", "check", "check, plain, once"),
+    ("release, a node", "release", "release, plain"),
+    ("lookup; the words of its path only read", "lookup", "lookup, only read"),
+    ("append; the words of its path only read", "append", "append, only read"),
+];
+
 fn main() {
-    println!("| C | call | Rattle, ns: median (least) | Rust | Rattle to Rust |");
-    println!("|---|---|---|---|---|");
-    let mut all = Vec::new();
-    for (c, _) in listed::ALL {
-        let m = measure(c, 60_000, 15);
-        for (call, ours, theirs) in CALLS {
-            let ratio = m.port.median(ours) / m.rust.median(theirs);
-            println!("| {c} | {call} | {} | {} | {ratio:.2} |", cell(&m.port, ours), cell(&m.rust, theirs));
-        }
-        all.push(m);
+    let [(c, _)] = listed::ALL;
+    let m = measure(60_000, 15);
+    for (call, ours, theirs) in CALLS {
+        let ratio = m.port.median(ours) / m.rust.median(theirs);
+        println!("1| {c} | {call} | {} | {} | {ratio:.2} |", cell(&m.port, ours), cell(&m.rust, theirs));
     }
-    println!("\n| C | beside a plain loop in Rust on the same words | Rattle, ns: median (least) | plain loop | Rattle to it |");
-    println!("|---|---|---|---|---|");
-    for m in &all {
-        for (call, ours, plain) in [
-            ("full check, a node", "check", "check, plain"),
-            ("full check, a node; the loop reads the tree once", "check", "check, plain, once"),
-            ("release, a node", "release", "release, plain"),
-            ("lookup; the words of its path only read", "lookup", "lookup, only read"),
-            ("append; the words of its path only read", "append", "append, only read"),
-        ] {
-            let ratio = m.port.median(ours) / m.port.median(plain);
-            println!("| {} | {call} | {} | {} | {ratio:.2} |", m.c, cell(&m.port, ours), cell(&m.port, plain));
-        }
+    for (call, ours, plain) in PLAIN {
+        let ratio = m.port.median(ours) / m.port.median(plain);
+        println!("2| {c} | {call} | {} | {} | {ratio:.2} |", cell(&m.port, ours), cell(&m.port, plain));
     }
-    println!("\n| C | entries | append: Rattle / Rust, ns | lookup | next, a leaf | prune, an entry | release, a node | full check, a node |");
-    println!("|---|---|---|---|---|---|---|---|");
-    for (c, sizes) in [
-        (2, &[1_000, 10_000, 60_000][..]),
-        (16, &[1_000, 10_000, 100_000, 900_000]),
-        (64, &[1_000, 10_000, 100_000, 1_000_000]),
-        (4094, &[1_000, 10_000, 100_000, 1_000_000]),
-    ] {
-        for entries in sizes {
-            let m = measure(c, *entries, (1_000_000 / entries).clamp(5, 25));
-            print!("| {c} | {} |", m.entries);
-            for call in ["append", "lookup", "next", "prune", "release"] {
-                print!(" {:.1} / {:.1} |", m.port.median(call), m.rust.median(call));
-            }
-            println!(" {:.1} |", m.port.median("check"));
+    // A pool has at most 65,535 nodes.
+    let most = match c {
+        2 => 60_000,
+        16 => 900_000,
+        _ => 1_000_000,
+    };
+    for entries in [1_000, 10_000, 100_000, 1_000_000].map(|n| most.min(n)) {
+        let m = measure(entries, (1_000_000 / entries).clamp(5, 25));
+        let mut line = format!("3| {c} | {entries} |");
+        for call in ["append", "lookup", "next", "prune", "release"] {
+            line += &format!(" {:.1} / {:.1} |", m.port.median(call), m.rust.median(call));
+        }
+        println!("{line} {:.1} |", m.port.median("check"));
+        if entries == most {
+            return;
         }
     }
 }

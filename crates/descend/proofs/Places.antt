@@ -98,3 +98,11 @@ module _ (C : ℕ) (w : List ℕ) (n k : ℕ) (some : 1 ≤ k) (up : T (rising (
   pub found : (end : ℕ) → lastNotAbove C w q n k < end → end ≤ i → LiesIn C w q n k place step
   found end b l =
       record { from = h .1; before = ⊎-elim (λ (g : lastNotAbove C w q n k < place + step). g) (λ (e : place + step ≡ i). omega arith) (h .2) }
+
+-- it lies among all entries
+pub lies-in-all : (C : ℕ) (w : List ℕ) (n q k : ℕ) → 1 ≤ k → LiesIn C w q n k 0 k
+lies-in-all C w n q k h = record { from = omega arith; before = omega (arith, place-below C w n q k h) }
+
+-- a part that it lies in begins at an entry
+pub begins : (C : ℕ) (w : List ℕ) (n q k low width : ℕ) → 1 ≤ k → LiesIn C w q n k low width → low < k
+begins C w n q k low width h p = omega (arith, p .from, place-below C w n q k h)

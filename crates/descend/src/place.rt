@@ -59,6 +59,9 @@ pub fn place_of(l: Layout, s: &[u64], n: NodeNo, count: u64, q: RowID) -> u64
     requires { ⌜ (n .0 < l .pool) × (1 ≤ count) × (count ≤ l .capacity) × T (rising (pairsFrom (l .capacity) (now s) (λ (x : ℕ). x) (n .0) 0 count)) ⌝ }
     ensures { λ r. ⌜ r ≡ lastNotAbove (l .capacity) (now (s .entry)) (q .0) (n .0) count ⌝ }
 {
+    if count <= 16 {
+        return narrow(l, s, n, count, q, 0, count, 1);
+    }
     let part = narrow(l, s, n, count, q, 0, count, 256);
     let few = narrow(l, s, n, count, q, part, 256, 16);
     narrow(l, s, n, count, q, few, 16, 1)
