@@ -2,8 +2,8 @@ use borrow.Author.Needs.{needs}
 use Prim.Native.Nat.{_-_, _^_, _≤_}
 use mathlib.Core.Path.{_≡_}
 use lib.ListN.{length}
-use Rattle.script_text.proofs.read_number.Statement.{statement}
-use Rattle.script_text.proofs.read_number.Tie as tie
+use Rattle.script_encode.proofs.number.read_number.Statement.{statement}
+use Rattle.script_encode.proofs.number.read_number.Tie as tie
 
 abbrev Inv-loop : tie.InvT-loop
 Inv-loop b value₀ i₀ to value i = 0 ≤ i

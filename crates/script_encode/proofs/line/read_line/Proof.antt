@@ -2,8 +2,8 @@ use borrow.Author.Needs.{needs}
 use Prim.Native.Nat.{_-_, _^_, _≤_}
 use mathlib.Core.Path.{_≡_}
 use lib.ListN.{length}
-use Rattle.script_text.proofs.read_line.Statement.{statement}
-use Rattle.script_text.proofs.read_line.Tie as tie
+use Rattle.script_encode.proofs.line.read_line.Statement.{statement}
+use Rattle.script_encode.proofs.line.read_line.Tie as tie
 
 abbrev Inv-loop : tie.InvT-loop
 Inv-loop b₀ len₀ b len = length b ≡ length b₀

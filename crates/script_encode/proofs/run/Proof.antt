@@ -2,14 +2,14 @@ use borrow.Author.Needs.{needs}
 use Prim.Native.Nat.{_-_, _^_, _≤_}
 use mathlib.Core.Path.{_≡_}
 use lib.ListN.{length}
-use Rattle.script_text.proofs.run.Statement.{statement}
-use Rattle.script_text.proofs.run.Tie as tie
+use Rattle.script_encode.proofs.run.Statement.{statement}
+use Rattle.script_encode.proofs.run.Tie as tie
 
 abbrev Inv-loop : tie.InvT-loop
-Inv-loop b₀ line₀ b line = length b ≡ length b₀
+Inv-loop b₀ at₀ b at = length b ≡ length b₀
 
 abbrev μ-loop : tie.MeasureT-loop
-μ-loop b₀ line₀ b line = 2 ^ 64 - line
+μ-loop b₀ at₀ b at = 2 ^ 64 - at
 
 loop-holds : tie.Need-loop-holds Inv-loop μ-loop
 loop-holds c = search needs
@@ -23,8 +23,8 @@ same-length c = search needs
 returns : tie.Need-returns Inv-loop μ-loop
 returns c = search needs
 
-add-line : tie.Need-add-line Inv-loop μ-loop
-add-line c = search needs
+add-at : tie.Need-add-at Inv-loop μ-loop
+add-at c = search needs
 
 loop-less : tie.Need-loop-less Inv-loop μ-loop
 loop-less c = search needs
@@ -48,7 +48,7 @@ run-spec =
     next-line-requires
     same-length
     returns
-    add-line
+    add-at
     loop-less
     loop-again
     same-length-2

@@ -2,8 +2,8 @@ use borrow.Author.Needs.{needs}
 use Prim.Native.Nat.{_-_, _^_, _≤_}
 use mathlib.Core.Path.{_≡_}
 use lib.ListN.{length}
-use Rattle.script_text.proofs.is_name.Statement.{statement}
-use Rattle.script_text.proofs.is_name.Tie as tie
+use Rattle.script_encode.proofs.line.is_name.Statement.{statement}
+use Rattle.script_encode.proofs.line.is_name.Tie as tie
 
 abbrev Inv-loop : tie.InvT-loop
 Inv-loop b name from i₀ i = 0 ≤ i

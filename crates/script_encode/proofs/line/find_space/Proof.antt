@@ -2,8 +2,8 @@ use borrow.Author.Needs.{needs}
 use Prim.Native.Nat.{_-_, _^_, _≤_}
 use mathlib.Core.Path.{_≡_}
 use lib.ListN.{length}
-use Rattle.script_text.proofs.find_space.Statement.{statement}
-use Rattle.script_text.proofs.find_space.Tie as tie
+use Rattle.script_encode.proofs.line.find_space.Statement.{statement}
+use Rattle.script_encode.proofs.line.find_space.Tie as tie
 
 abbrev Inv-loop : tie.InvT-loop
 Inv-loop b len at space i₀ i = at ≤ i
