@@ -18,6 +18,7 @@ use Rattle.records.specs.declared.Head.the-variants as H
 use Rattle.records.proofs.Heads.{within, wholly, badly}
 use Rattle.lines.specs.Names.{freeName}
 use Rattle.calls.specs.Calls.{Memory, perform}
+use Rattle.calls.proofs.Short.{line-short, short}
 use Rattle.script.specs.Script.{listingFrom, listingOf, turn}
 use Rattle.calls.specs.Steps.{memory, Does}
 use Rattle.calls.specs.declared.Progress.{Progress}
@@ -84,6 +85,11 @@ pub turn-some : (m : Memory) (bs : List ℕ) → 0 < length bs → turn m bs ≡
 unfolding turn
 turn-some m [] h = absurd (omega arith)
 turn-some m (b ∷ bs) h = refl
+
+pub turn-short : (m : Memory) (bs : List ℕ) → length (m .words) ≤ 4096 → length (turn m bs .lines) ≤ 65536
+unfolding turn
+turn-short m [] h = omega (arith, line-short freeName (freeCount (m .words) ∷ []))
+turn-short m (b ∷ bs) h = short m h (first (b ∷ bs))
 
 pub turn-none : (w : List ℕ) (u : ℕ) (bs : List ℕ) {out out₁ : List ℕ} {r : ℕ} → length bs ≡ 0 → Puts out 0 (line freeName (freeCount w ∷ [])) out₁ r → Does (turn (memory w u) bs) out 0 w out₁ (record { used = u; at = r; goes = false })
 unfolding turn

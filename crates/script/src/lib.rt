@@ -101,10 +101,12 @@ pub fn free_step(s: &[u64], out: &mut [u8], at: usize) -> usize
 }
 
 // A turn of a program that takes the records one by one: the next record's lines, or the last line where no bytes are left.
+// They fit into 65,536 bytes: 4,096 words hold at most 511 nodes, and a line of a walk has at most 68 bytes (`short` in
+// calls/proofs/Short).
 pub fn turn_step(s: &mut [u64], used: usize, bytes: &[u8], out: &mut [u8]) -> Progress
-    requires { ⌜ (5 ≤ length (now s)) × (used ≤ length (now s)) ⌝ }
+    requires { ⌜ (5 ≤ length (now s)) × (length (now s) ≤ 4096) × (used ≤ length (now s)) ⌝ }
     ensures { λ r. ⌜ Does (turn (memory (now (s .entry)) used) (now (bytes .entry))) (now (out .entry)) 0 (now (s .exit)) (now (out .exit)) r ⌝ }
-    ensures used { λ r. ⌜ r .used ≤ length (now (s .exit)) ⌝ }
+    ensures bounds { λ r. ⌜ (r .used ≤ length (now (s .exit))) × (r .at ≤ 65536) ⌝ }
 {
     if bytes.len() == 0 {
         let at = free_step(&s[..], out, 0);

@@ -2,7 +2,6 @@
 
 ghost use Prim.Native.Nat.{_≤_};
 ghost use lib.ListN.{length};
-use calls::Progress;
 
 // Where the record that begins at a place ends, as script_input::read_record reads it.
 fn record_end(script: &[u8], at: usize) -> usize
@@ -20,17 +19,9 @@ fn record_end(script: &[u8], at: usize) -> usize
     at + len
 }
 
-// The lines of a record after those before it: the place after them.
-fn put_lines(out: &mut [u8], place: usize, lines: &[u8], len: usize) -> usize {
-    if len <= lines.len() {
-        return text::put_bytes(out, place, &lines[0..len]);
-    }
-    place
-}
-
 // The listing on these words: its length.
 fn list_on(script: &[u8], words: &mut [u64], lines: &mut [u8], out: &mut [u8]) -> usize
-    requires { ⌜ 5 ≤ length (now words) ⌝ }
+    requires { ⌜ (5 ≤ length (now words)) × (length (now words) ≤ 4096) × (65536 ≤ length (now lines)) ⌝ }
 {
     let mut used = words.len();
     let mut at: usize = 0;
@@ -39,7 +30,8 @@ fn list_on(script: &[u8], words: &mut [u64], lines: &mut [u8], out: &mut [u8]) -
     while 0 < turns {
         let end = record_end(script, at);
         let t = script::turn_step(words, used, &script[at..end], lines);
-        place = put_lines(out, place, &lines[..], t.at);
+        let len = t.at;
+        place = text::put_bytes(out, place, &lines[0..len]);
         if !t.goes {
             return place;
         }

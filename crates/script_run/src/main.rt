@@ -1,33 +1,29 @@
 // The script program: records from standard input, their listing to standard output. Each record goes through script::step,
-// as in the C function. A record's lines fit into the buffer: a walk of 4,096 words has at most 511 leaves, and a line at
-// most 68 bytes.
+// as in the C function.
 
 ghost use Prim.Native.Nat.{_≤_};
 ghost use lib.ListN.{length};
 use calls::Progress;
 use libc::STDOUT_FILENO;
 
-fn print(out: &[u8], len: usize) {
-    if len <= out.len() {
-        io::write_all(STDOUT_FILENO, &out[0..len]);
-    }
-}
-
 // A record, its lines printed; or the end of the input, and the last line.
 fn run_record(words: &mut [u64], used: usize, bytes: &mut [u8], out: &mut [u8]) -> Progress
-    requires { ⌜ (4100 ≤ length (now bytes)) × (5 ≤ length (now words)) × (used ≤ length (now words)) ⌝ }
+    requires { ⌜ (5 ≤ length (now words)) × (length (now words) ≤ 4096) × (used ≤ length (now words)) ⌝ }
+    requires { ⌜ (4100 ≤ length (now bytes)) × (65536 ≤ length (now out)) ⌝ }
     ensures { λ r. ⌜ r .used ≤ length (now (words .exit)) ⌝ }
 {
     let n = script_input::read_record(bytes);
     let t = script::turn_step(words, used, &bytes[0..n], out);
-    print(&out[..], t.at);
+    let len = t.at;
+    io::write_all(STDOUT_FILENO, &out[0..len]);
     t
 }
 
 // A proved loop has to end, and nothing says that the input does: the turns are counted down from a number that no run
 // uses up.
 fn run(words: &mut [u64], bytes: &mut [u8], out: &mut [u8])
-    requires { ⌜ (4100 ≤ length (now bytes)) × (5 ≤ length (now words)) ⌝ }
+    requires { ⌜ (5 ≤ length (now words)) × (length (now words) ≤ 4096) ⌝ }
+    requires { ⌜ (4100 ≤ length (now bytes)) × (65536 ≤ length (now out)) ⌝ }
 {
     let mut used = words.len();
     let mut turns = u64::MAX;

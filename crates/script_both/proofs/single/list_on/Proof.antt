@@ -29,8 +29,17 @@ part-turn-step-end c = search needs
 turn-step-requires : tie.Need-turn-step-requires Inv-loop μ-loop
 turn-step-requires c κs = search needs
 
-put-lines-requires : tie.Need-put-lines-requires Inv-loop μ-loop
-put-lines-requires c κs = search needs
+sub-put-bytes : tie.Need-sub-put-bytes Inv-loop μ-loop
+sub-put-bytes c = search needs
+
+part-put-bytes-start : tie.Need-part-put-bytes-start Inv-loop μ-loop
+part-put-bytes-start c = search needs
+
+part-put-bytes-end : tie.Need-part-put-bytes-end Inv-loop μ-loop
+part-put-bytes-end c = search needs
+
+put-bytes-requires : tie.Need-put-bytes-requires Inv-loop μ-loop
+put-bytes-requires c κs = search needs
 
 same-length : tie.Need-same-length Inv-loop μ-loop
 same-length c = search needs
@@ -77,7 +86,10 @@ list-on-spec =
     part-turn-step-start
     part-turn-step-end
     turn-step-requires
-    put-lines-requires
+    sub-put-bytes
+    part-put-bytes-start
+    part-put-bytes-end
+    put-bytes-requires
     same-length
     same-length-2
     same-length-3
