@@ -35,7 +35,7 @@ endAbove C w q zero = 0
 endAbove C w q (suc k) = pick (ltb q (end C w k)) 1 0 + endAbove C w q k
 
 module _ (C : ℕ) (w : List ℕ) where
-  above-few : (q k : ℕ) → endAbove C w q k ≤ k
+  pub above-few : (q k : ℕ) → endAbove C w q k ≤ k
   unfolding endAbove
   above-few q zero = omega arith
   above-few q (suc k) =
@@ -70,7 +70,7 @@ module _ (C : ℕ) (w : List ℕ) where
 abbrev pub left : List ℕ → RowPageIndexMemCursor → ℕ
 left w c = pick (headerOk w) (pick (c .done) 1 (2 + endAbove (capacity w) w (c .«row_id» .0) (pool w))) 1
 
-left-some : (w : List ℕ) (c : RowPageIndexMemCursor) → 1 ≤ left w c
+pub left-some : (w : List ℕ) (c : RowPageIndexMemCursor) → 1 ≤ left w c
 left-some w c = by-test (headerOk w) (λ h. by-test (c .done) (λ t. rw (h, t) (omega arith)) (λ t. rw (h, t) (omega arith))) (λ h. rw h (omega arith))
 
 module _ (C : ℕ) (w : List ℕ) (q : ℕ) where
@@ -142,7 +142,7 @@ module _ (C : ℕ) (w : List ℕ) (q : ℕ) where
       let y = f n e refl in omega (arith, above-falls C w q (end C w n) n P (y .inside) (omega (arith, y .above, y .ends)) refl)
 
 -- a step that gives a leaf leaves fewer
-falls : (w : List ℕ) (c : RowPageIndexMemCursor) (l : List PageEntry) → givesLeaf (nextLeafOf w c l .answer) ≡ true → left w (nextLeafOf w c l .cursor) < left w c
+pub falls : (w : List ℕ) (c : RowPageIndexMemCursor) (l : List PageEntry) → givesLeaf (nextLeafOf w c l .answer) ≡ true → left w (nextLeafOf w c l .cursor) < left w c
 unfolding nextLeafOf givesLeaf
 falls w c l g =
     let q = c .«row_id» .0 in

@@ -3,3 +3,4 @@ pub mod Refused
 pub mod Walking
 pub mod Bound
 pub mod Suffice
+pub mod Short

@@ -6,18 +6,20 @@ use mathlib.Core.Bool.{Bool, true, false}
 use native.Mathlib.Omega.{arith}
 use lib.ListN.{length, take, drop, replicate, length-drop, length-take, length-replicate}
 use lib.Seq.{drop-length, drop-drop}
-use Rattle.model.specs.Words.{pick}
+use Rattle.model.specs.Words.{pick, freeCount}
 use Rattle.model.specs.Refusals.{Answer, result, refused}
 use Rattle.model.specs.Create.{create}
 use Rattle.model.proofs.Tests.{by-test}
-use Rattle.text.specs.Lines.{Puts}
+use Rattle.text.specs.Lines.{Puts, line}
 use Rattle.text.proofs.Putting.{joins}
 use Rattle.records.specs.Records.{Call, Create, Append, Find, Prune, Walk, Release, Bad, bodyLength, whole, first, asked}
 use Rattle.records.specs.Read.{headOf}
 use Rattle.records.specs.declared.Head.the-variants as H
 use Rattle.records.proofs.Heads.{within, wholly, badly}
+use Rattle.lines.specs.Names.{freeName}
 use Rattle.calls.specs.Calls.{Memory, perform}
-use Rattle.script.specs.Script.{listingFrom, listingOf}
+use Rattle.calls.proofs.Short.{line-short, short}
+use Rattle.script.specs.Script.{listingFrom, listingOf, turn}
 use Rattle.calls.specs.Steps.{memory, Does}
 use Rattle.calls.specs.declared.Progress.{Progress}
 
@@ -72,6 +74,27 @@ one-record m (b ∷ bs) h =
     let d = length-drop n (b ∷ bs) in
     let e = fuel (length bs) (length (rest (b ∷ bs))) (p .memory) (rest (b ∷ bs)) (omega arith) (omega arith) in
     ap (λ (more : List ℕ). p .lines ++ pick (p .goes) more []) e
+
+-- the listing, turn by turn
+pub turns : (m : Memory) (bs : List ℕ) → listingFrom (length bs) m bs ≡ turn m bs .lines ++ pick (turn m bs .goes) (listingFrom (length (rest bs)) (turn m bs .memory) (rest bs)) []
+unfolding turn listingFrom
+turns m [] = sym (append-nil _)
+turns m (b ∷ bs) = one-record m (b ∷ bs) (omega arith)
+
+pub turn-some : (m : Memory) (bs : List ℕ) → 0 < length bs → turn m bs ≡ perform m (first bs)
+unfolding turn
+turn-some m [] h = absurd (omega arith)
+turn-some m (b ∷ bs) h = refl
+
+pub turn-short : (m : Memory) (bs : List ℕ) → length (m .words) ≤ 4096 → length (turn m bs .lines) ≤ 65536
+unfolding turn
+turn-short m [] h = omega (arith, line-short freeName (freeCount (m .words) ∷ []))
+turn-short m (b ∷ bs) h = short m h (first (b ∷ bs))
+
+pub turn-none : (w : List ℕ) (u : ℕ) (bs : List ℕ) {out out₁ : List ℕ} {r : ℕ} → length bs ≡ 0 → Puts out 0 (line freeName (freeCount w ∷ [])) out₁ r → Does (turn (memory w u) bs) out 0 w out₁ (record { used = u; at = r; goes = false })
+unfolding turn
+turn-none w u [] h p = record { words = refl; used = refl; goes = refl; puts = p }
+turn-none w u (b ∷ bs) h p = absurd (omega arith)
 
 module _ (w : List ℕ) (u : ℕ) (bs : List ℕ) (some : 0 < length bs) {out w₁ out₁ : List ℕ} {at : ℕ} {t : Progress} (d : Does (perform (memory w u) (first bs)) out at w₁ out₁ t) where
   pub stops : t .goes ≡ false → Puts out at (listingFrom (length bs) (memory w u) bs) out₁ (t .at)

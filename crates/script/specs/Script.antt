@@ -13,6 +13,12 @@ use Rattle.calls.specs.Calls.{Memory, zeros, Performed, perform}
 abbrev pub freeLine : Memory → List ℕ
 freeLine m = line freeName (freeCount (m .words) ∷ [])
 
+-- What a program does that takes the records one by one, with the bytes of the next one: none at the end of the script.
+-- The lines of its turns are the listing (`turns` in proofs/Stepping).
+unfoldable pub turn : Memory → List ℕ → Performed
+turn m [] = record { lines = freeLine m; memory = m; goes = false }
+turn m (b ∷ bs) = perform m (first (b ∷ bs))
+
 -- The listing of these bytes, of which there are at most k. A record has six bytes or more.
 unfoldable pub listingFrom : ℕ → Memory → List ℕ → List ℕ
 listingFrom zero m bs = freeLine m

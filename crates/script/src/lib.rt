@@ -13,7 +13,7 @@ ghost use Rattle.records.specs.Records as R;
 ghost use Rattle.records.specs.Read.{bodyWords, meant};
 ghost use Rattle.calls.specs.Calls.{perform};
 ghost use Rattle.calls.specs.Steps.{Does, memory};
-ghost use Rattle.script.specs.Script.{listing, listingFrom};
+ghost use Rattle.script.specs.Script.{listing, listingFrom, turn};
 use calls::Progress;
 use model::id::RowID;
 use records::Head;
@@ -98,6 +98,25 @@ pub fn free_step(s: &[u64], out: &mut [u8], at: usize) -> usize
     ensures { λ r. ⌜ Puts (now (out .entry)) at (line freeName (freeCount (now (s .entry)) ∷ [])) (now (out .exit)) r ⌝ }
 {
     text::put_line1(out, at, b"free", s[4])
+}
+
+// A turn of a program that takes the records one by one: the next record's lines, or the last line where no bytes are left.
+// They fit into 65,536 bytes: 4,096 words hold at most 511 nodes, and a line of a walk has at most 68 bytes (`short` in
+// calls/proofs/Short).
+pub fn turn_step(s: &mut [u64], used: usize, bytes: &[u8], out: &mut [u8]) -> Progress
+    requires { ⌜ (5 ≤ length (now s)) × (length (now s) ≤ 4096) × (used ≤ length (now s)) ⌝ }
+    ensures { λ r. ⌜ Does (turn (memory (now (s .entry)) used) (now (bytes .entry))) (now (out .entry)) 0 (now (s .exit)) (now (out .exit)) r ⌝ }
+    ensures bounds { λ r. ⌜ (r .used ≤ length (now (s .exit))) × (r .at ≤ 65536) ⌝ }
+{
+    if bytes.len() == 0 {
+        let at = free_step(&s[..], out, 0);
+        return Progress {
+            used,
+            at,
+            goes: false,
+        };
+    }
+    step(s, used, bytes, out, 0)
 }
 
 // A whole script, on these words.

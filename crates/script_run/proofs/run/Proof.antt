@@ -6,7 +6,7 @@ use Rattle.script_run.proofs.run.Statement.{statement}
 use Rattle.script_run.proofs.run.Tie as tie
 
 abbrev Inv-loop : tie.InvT-loop
-Inv-loop words₀ bytes₀ out₀ used₀ turns₀ words bytes out used turns = (length words ≡ length words₀) × (length bytes ≡ length bytes₀) × (length out ≡ length out₀)
+Inv-loop words₀ bytes₀ out₀ used₀ turns₀ words bytes out used turns = (length words ≡ length words₀) × (length bytes ≡ length bytes₀) × (length out ≡ length out₀) × (used ≤ length words)
 
 abbrev μ-loop : tie.MeasureT-loop
 μ-loop words₀ bytes₀ out₀ used₀ turns₀ words bytes out used turns = turns

@@ -1,0 +1,18 @@
+// The names of the calls in a script's text, by the kind of their records.
+
+ghost use Prim.Native.Nat.{_+_, _≤_};
+
+// Nothing for another kind. The place after the name.
+pub fn put_name(out: &mut [u8], at: usize, kind: u64) -> usize
+    ensures { λ r. ⌜ r ≤ at + 7 ⌝ }
+{
+    match kind {
+        1 => text::put_bytes(out, at, b"create"),
+        2 => text::put_bytes(out, at, b"append"),
+        3 => text::put_bytes(out, at, b"find"),
+        4 => text::put_bytes(out, at, b"prune"),
+        5 => text::put_bytes(out, at, b"walk"),
+        6 => text::put_bytes(out, at, b"release"),
+        _ => at,
+    }
+}
