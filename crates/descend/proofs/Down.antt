@@ -84,3 +84,8 @@ module _ (f : ℕ → ℕ) (C P : ℕ) (w : List ℕ) (n : ℕ) (b : Limit) wher
       (λ t. by-test (leb (height C w k) maxHeight)
       (λ u. inr (path-sound (height C w k) k k (start C w k) Open (rw (t, u) at e)))
       (λ u. not-leaf k (rw (t, u) at e)))
+
+-- after the last entry comes what comes after the node
+pub next-last : (C : ℕ) (w : List ℕ) (n i : ℕ) (b : Limit) → count C w n ≤ i + 1 → b ≡ nextRow C w n i b
+unfolding nextRow
+next-last C w n i b h = rw (le-ltb (i + 1) (count C w n) h)

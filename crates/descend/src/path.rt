@@ -4,7 +4,7 @@ ghost use mathlib.Core.Path.{_≡_};
 ghost use mathlib.Core.Bool.{true};
 ghost use Prim.Native.Nat.{ℕ, _+_, _-_, _≤_, _<_};
 ghost use Rattle.model.specs.Tree.{Open, nodeAt, sound};
-ghost use Rattle.model.specs.Reading.{descend, rootLeaf};
+ghost use Rattle.model.specs.Reading.{descend, nextRow, rootLeaf};
 ghost use Rattle.model.specs.Words.{count};
 ghost use Rattle.node.specs.Layout.{Fits};
 ghost use Rattle.node.specs.Test.{limitOf};
@@ -29,8 +29,14 @@ pub enum Reached {
     Leaf(NodeNo, Limit),
 }
 
+// The entry that the path follows, and what is next for it.
+pub struct Chosen {
+    pub index: u64,
+    pub next: Limit,
+}
+
 // The entry of a sound node n that the path follows.
-pub fn choose(
+fn choose(
     l: Layout,
     s: &[u64],
     n: NodeNo,
@@ -38,16 +44,25 @@ pub fn choose(
     row: RowID,
     next: Limit,
     toward: Toward,
-) -> u64
+) -> Chosen
     requires { ⌜ Fits l (now s) ⌝ }
     requires { ⌜ (n .0 < l .pool) × (sound (l .capacity) height (nodeAt (l .capacity) (now s) (n .0)) (row .0) (limitOf next) ≡ true) ⌝ }
-    ensures is { λ r. ⌜ r ≡ chooser (l .capacity) (now (s .entry)) toward (n .0) ⌝ }
-    ensures below { λ r. ⌜ r < count (l .capacity) (now (s .entry)) (n .0) ⌝ }
+    ensures is { λ r. ⌜ r .index ≡ chooser (l .capacity) (now (s .entry)) toward (n .0) ⌝ }
+    ensures below { λ r. ⌜ r .index < count (l .capacity) (now (s .entry)) (n .0) ⌝ }
+    ensures next { λ r. ⌜ limitOf (r .next) ≡ nextRow (l .capacity) (now (s .entry)) (n .0) (r .index) (limitOf next) ⌝ }
 {
     let count = l.part(s, n, 1);
     match toward {
-        Toward::Row(q) => place::place_of(l, s, n, count, q),
-        Toward::Right => count - 1,
+        Toward::Row(q) => {
+            let index = place::place_of(l, s, n, count, q);
+            let next = turn::next_row(l, s, n, index, next);
+            Chosen { index, next }
+        }
+        // After the last entry comes what comes after the node.
+        Toward::Right => Chosen {
+            index: count - 1,
+            next,
+        },
     }
 }
 
@@ -76,11 +91,11 @@ fn find_below(
         if !good {
             return Reached::Unsound(n);
         }
-        let i = choose(l, s, n, h, r, next, toward);
-        next = turn::next_row(l, s, n, i, next);
-        r = l.row(s, n, i);
+        let chosen = choose(l, s, n, h, r, next, toward);
+        next = chosen.next;
+        r = l.row(s, n, chosen.index);
         parent = n;
-        n = l.child(s, n, i);
+        n = l.child(s, n, chosen.index);
         h -= 1;
     }
     if l.pool <= n.0 {

@@ -44,7 +44,7 @@ fn put_decimal(out: &mut [u8], at: usize, n: u64) -> usize
 }
 
 // A number after a space.
-fn put_number(out: &mut [u8], at: usize, n: u64) -> usize
+pub fn put_number(out: &mut [u8], at: usize, n: u64) -> usize
     ensures { λ r. ⌜ Puts (now (out .entry)) at (space ∷ decimal n) (now (out .exit)) r ⌝ }
 {
     let place = put_byte(out, at, b' ');

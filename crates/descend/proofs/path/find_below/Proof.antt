@@ -36,23 +36,21 @@ returns-2 c = let a = c .before .before .before .before .before .before .before 
 choose-requires : tie.Need-choose-requires Inv-loop μ-loop
 choose-requires c κs = (c .before .before .before .before .before .before .before .before .pre, (c .before .before .if1 .left, sym (c .before .is-sound .ensures) ∙ not-false _ (c .if2 .left)))
 
-next-row-requires : tie.Need-next-row-requires Inv-loop μ-loop
-next-row-requires c κs =
-    let a = c .before .before .before .before .before .before .before .before .before .args in
-    let f = facts (a .l .capacity) (a .s .now) (c .before .before .before .before .before .before .before .loop .n .0) (c .before .before .before .before .before .before .before .loop .h) (c .before .before .before .before .before .before .before .loop .r .0) (limitOf (c .before .before .before .before .before .before .before .loop .next)) (sym (c .before .before .is-sound .ensures) ∙ not-false _ (c .before .if2 .left)) in
-    (c .before .before .before .before .before .before .before .before .before .pre, (c .before .before .before .if1 .left, c .choose .ensures .1, f .many))
-
 row-requires : tie.Need-row-requires Inv-loop μ-loop
 row-requires c κs =
-    let a = c .before .before .before .before .before .before .before .before .before .before .args in
-    let f = facts (a .l .capacity) (a .s .now) (c .before .before .before .before .before .before .before .before .loop .n .0) (c .before .before .before .before .before .before .before .before .loop .h) (c .before .before .before .before .before .before .before .before .loop .r .0) (limitOf (c .before .before .before .before .before .before .before .before .loop .next)) (sym (c .before .before .before .is-sound .ensures) ∙ not-false _ (c .before .before .if2 .left)) in
-    (c .before .before .before .before .before .before .before .before .before .before .pre, (c .before .before .before .before .if1 .left, omega (arith, f .many, c .before .choose .ensures .1)))
+    let a = c .before .before .before .before .before .before .before .before .before .args in
+    let at = c .before .before .before .before .before .before .before .loop in
+    let good = sym (c .before .before .is-sound .ensures) ∙ not-false _ (c .before .if2 .left) in
+    let f = facts (a .l .capacity) (a .s .now) (at .n .0) (at .h) (at .r .0) (limitOf (at .next)) good in
+    (c .before .before .before .before .before .before .before .before .before .pre, (c .before .before .before .if1 .left, omega (arith, f .many, c .choose .ensures .1 .0)))
 
 child-requires : tie.Need-child-requires Inv-loop μ-loop
 child-requires c κs =
-    let a = c .before .before .before .before .before .before .before .before .before .before .before .args in
-    let f = facts (a .l .capacity) (a .s .now) (c .before .before .before .before .before .before .before .before .before .loop .n .0) (c .before .before .before .before .before .before .before .before .before .loop .h) (c .before .before .before .before .before .before .before .before .before .loop .r .0) (limitOf (c .before .before .before .before .before .before .before .before .before .loop .next)) (sym (c .before .before .before .before .is-sound .ensures) ∙ not-false _ (c .before .before .before .if2 .left)) in
-    (c .before .before .before .before .before .before .before .before .before .before .before .pre, (c .before .before .before .before .before .if1 .left, omega (arith, f .many, c .before .before .choose .ensures .1)))
+    let a = c .before .before .before .before .before .before .before .before .before .before .args in
+    let at = c .before .before .before .before .before .before .before .before .loop in
+    let good = sym (c .before .before .before .is-sound .ensures) ∙ not-false _ (c .before .before .if2 .left) in
+    let f = facts (a .l .capacity) (a .s .now) (at .n .0) (at .h) (at .r .0) (limitOf (at .next)) good in
+    (c .before .before .before .before .before .before .before .before .before .before .pre, (c .before .before .before .before .if1 .left, omega (arith, f .many, c .before .choose .ensures .1 .0)))
 
 sub-h : tie.Need-sub-h Inv-loop μ-loop
 sub-h c = search needs
@@ -62,10 +60,13 @@ loop-less c = search needs
 
 loop-again : tie.Need-loop-again Inv-loop μ-loop
 loop-again c =
-    let a = c .before .before .before .before .before .before .before .before .before .before .before .before .args in
-    c .before .before .before .before .before .before .before .before .before .before .loop .inv
-    ∙ down (chooser (a .l .capacity) (a .s .now) (a .toward)) (a .l .capacity) (a .l .pool) (a .s .now) (c .before .before .before .before .before .before .before .before .before .before .loop .parent .0) (c .before .before .before .before .before .before .before .before .before .before .loop .n .0) (c .before .before .before .before .before .before .before .before .before .before .loop .r .0) (limitOf (c .before .before .before .before .before .before .before .before .before .before .loop .next)) (c .before .before .before .before .before .before .before .before .before .before .loop .h) (c .before .before .before .choose .result) (c .before .before .before .before .before .before .before .before .before .loop-test .taken) (c .before .before .before .before .before .before .if1 .left) (sym (c .before .before .before .before .before .is-sound .ensures) ∙ not-false _ (c .before .before .before .before .if2 .left)) (c .before .before .before .choose .ensures .0)
-    ∙ rw (c .child .ensures, c .before .row .ensures, c .before .before .next-row .ensures)
+    let a = c .before .before .before .before .before .before .before .before .before .before .before .args in
+    let at = c .before .before .before .before .before .before .before .before .before .loop in
+    let chosen = c .before .before .choose in
+    let good = sym (c .before .before .before .before .is-sound .ensures) ∙ not-false _ (c .before .before .before .if2 .left) in
+    at .inv
+    ∙ down (chooser (a .l .capacity) (a .s .now) (a .toward)) (a .l .capacity) (a .l .pool) (a .s .now) (at .parent .0) (at .n .0) (at .r .0) (limitOf (at .next)) (at .h) (chosen .result .index) (c .before .before .before .before .before .before .before .before .loop-test .taken) (c .before .before .before .before .before .if1 .left) good (chosen .ensures .0)
+    ∙ rw (c .child .ensures, c .before .row .ensures, chosen .ensures .1 .1)
 
 returns-3 : tie.Need-returns-3 Inv-loop μ-loop
 returns-3 c = let a = c .before .before .before .before .before .before .args in sym (c .before .before .before .before .loop .inv ∙ far (chooser (a .l .capacity) (a .s .now) (a .toward)) (a .l .capacity) (a .l .pool) (a .s .now) (c .before .before .before .before .loop .parent .0) (c .before .before .before .before .loop .n .0) (c .before .before .before .before .loop .r .0) (limitOf (c .before .before .before .before .loop .next)) (c .before .before .before .before .loop .h) (c .if3 .taken))
@@ -93,7 +94,6 @@ find-below-spec =
     is-sound-requires
     returns-2
     choose-requires
-    next-row-requires
     row-requires
     child-requires
     sub-h
