@@ -93,7 +93,7 @@ fn record_length(bytes: &[u8]) -> usize
 }
 
 // The last line.
-pub fn free_step(s: &[u64], out: &mut [u8], at: usize) -> usize
+fn free_step(s: &[u64], out: &mut [u8], at: usize) -> usize
     requires { ⌜ 5 ≤ length (now s) ⌝ }
     ensures { λ r. ⌜ Puts (now (out .entry)) at (line freeName (freeCount (now (s .entry)) ∷ [])) (now (out .exit)) r ⌝ }
 {
