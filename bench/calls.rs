@@ -79,6 +79,14 @@ fn read_path(w: &[u64], row: u64) -> u64 {
     }
 }
 
+/// `next` as a Rattle crate calls it: the cursor by value, the row alone in it. The end of the leaf.
+fn next_by_value(w: &[u64], row: u64, records: &mut [u64]) -> u64 {
+    unsafe extern "C" {
+        fn bench_next(w: *const u64, len: usize, row: u64, records: *mut u64, records_len: usize) -> u64;
+    }
+    unsafe { bench_next(w.as_ptr(), w.len(), row, records.as_mut_ptr(), records.len()) }
+}
+
 /// What the two sides are asked: so many appends, so many lookups, and the page ids of a prune.
 struct Work {
     entries: u64,
@@ -102,7 +110,7 @@ fn rust_round(create: calls::Create, work: &Work, times: &mut Times) -> [u64; 3]
     let append_all = |index: &mut Box<dyn Index>, name, times: &mut Times| {
         let t = Instant::now();
         for k in 0..work.entries {
-            black_box(index.append(ROWS, k + 1)).unwrap();
+            black_box(index.append(ROWS, k + 1).unwrap().1);
         }
         times.keep(name, t, work.entries);
     };
@@ -136,12 +144,12 @@ fn rust_round(create: calls::Create, work: &Work, times: &mut Times) -> [u64; 3]
     [leaves, pruned[1], nodes]
 }
 
-/// A round of the port, in words that the round before has used.
+/// A round of the port.
 fn port_round(store: &mut Store, copy: &mut Store, c: u64, nodes: u64, work: &Work, times: &mut Times) -> [u64; 3] {
     store.create(c, nodes, 0).unwrap();
     let t = Instant::now();
     for k in 0..work.entries {
-        black_box(store.append(ROWS, k + 1)).unwrap();
+        black_box(store.append(ROWS, k + 1).unwrap().end);
     }
     times.keep("append", t, work.entries);
     copy.words.copy_from_slice(&store.words);
@@ -166,15 +174,22 @@ fn port_round(store: &mut Store, copy: &mut Store, c: u64, nodes: u64, work: &Wo
         black_box(read_path(black_box(&store.words), work.end()));
     }
     times.keep("append, only read", t, work.lookups / 10);
-    let mut records = vec![0; 2 * c as usize];
+    let mut records = vec![1; 2 * c as usize];
     let (mut cursor, mut leaves, mut entries) = (Cursor::new(), 0, 0);
     let t = Instant::now();
     cursor.seek(0);
     while let Some(leaf) = store.next(&mut cursor, &mut records).unwrap() {
         (leaves, entries) = (leaves + 1, entries + leaf.count);
     }
-    times.keep("next", t, leaves);
+    times.keep("next, C function", t, leaves);
     assert_eq!(entries, work.entries);
+    let mut row = 0;
+    let t = Instant::now();
+    for _ in 0..leaves {
+        row = next_by_value(black_box(&store.words), row, &mut records);
+    }
+    times.keep("next", t, leaves);
+    assert_eq!(row, work.end());
     let t = Instant::now();
     let held = store.check().unwrap();
     times.keep("check", t, held.nodes);
@@ -185,7 +200,7 @@ fn port_round(store: &mut Store, copy: &mut Store, c: u64, nodes: u64, work: &Wo
     let t = Instant::now();
     assert_eq!(black_box(plain::check_once::<false>(black_box(&store.words))), held.nodes);
     times.keep("check, plain, once", t, held.nodes);
-    let mut pages = vec![0; work.entries as usize];
+    let mut pages = vec![1; work.entries as usize];
     copy.words.copy_from_slice(&store.words);
     let t = Instant::now();
     assert_eq!(plain::destroy::<false>(black_box(&mut copy.words), &mut pages), held.nodes);
@@ -208,14 +223,14 @@ fn measure(entries: u64, rounds: u64) -> Measured {
     let work = Work::new(entries);
     // At C = 2 an append takes about one node; the pool has at most 65,535.
     let nodes = if c == 2 { 65_535 } else { (entries / c + entries / c / (c / 2) + 64).min(65_535) };
-    let empty = || Store { words: vec![0; Store::length(c, nodes) as usize] };
-    let (mut store, mut copy) = (empty(), empty());
+    // New words in each round, for where they lie in memory tells in the times; written once, so that their pages are there.
+    let words = || Store { words: vec![1; Store::length(c, nodes) as usize] };
     let mut m = Measured { rust: Times::default(), port: Times::default() };
     for round in 0..=rounds {
         if round == 1 {
             (m.rust, m.port) = (Times::default(), Times::default());
         }
-        let ours = port_round(&mut store, &mut copy, c, nodes, &work, &mut m.port);
+        let ours = port_round(&mut words(), &mut words(), c, nodes, &work, &mut m.port);
         assert_eq!(ours, rust_round(create, &work, &mut m.rust));
     }
     m
@@ -226,11 +241,12 @@ fn cell(times: &Times, name: &str) -> String {
     format!("{:.1} ({:.1})", times.median(name), times.least(name))
 }
 
-const CALLS: [(&str, &str, &str); 6] = [
+const CALLS: [(&str, &str, &str); 7] = [
     ("append", "append", "append"),
     ("append, the Rust's nodes allocated", "append", "append, first"),
     ("lookup", "lookup", "lookup"),
     ("next, a leaf", "next", "next"),
+    ("next, a leaf, by the host's C function", "next, C function", "next"),
     ("prune of all, an entry", "prune", "prune"),
     ("release, a node", "release", "release"),
 ];
@@ -245,7 +261,7 @@ const PLAIN: [(&str, &str, &str); 5] = [
 
 fn main() {
     let [(c, _)] = listed::ALL;
-    let m = measure(60_000, 15);
+    let m = measure(60_000, 25);
     for (call, ours, theirs) in CALLS {
         let ratio = m.port.median(ours) / m.rust.median(theirs);
         println!("1| {c} | {call} | {} | {} | {ratio:.2} |", cell(&m.port, ours), cell(&m.rust, theirs));
