@@ -2,8 +2,12 @@
 
 pub mod name;
 
+ghost use mathlib.Core.Path.{_≡_};
 ghost use Prim.Native.Nat.{_≤_};
+ghost use lib.Dec.{ltb};
 ghost use lib.ListN.{length};
+ghost use Rattle.model.specs.Words.{pick};
+ghost use Rattle.records.specs.Records.{bodyLength};
 
 const STDIN_FILENO: i32 = 0;
 
@@ -11,7 +15,8 @@ const STDIN_FILENO: i32 = 0;
 // Such a record is bad by its length alone.
 pub fn announced(bytes: &[u8]) -> usize
     requires { ⌜ 4 ≤ length (now bytes) ⌝ }
-    ensures { λ r. ⌜ r ≤ 4096 ⌝ }
+    ensures is { λ r. ⌜ r ≡ pick (ltb 4096 (bodyLength (now (bytes .entry)))) 0 (bodyLength (now (bytes .entry))) ⌝ }
+    ensures few { λ r. ⌜ r ≤ 4096 ⌝ }
 {
     let len = records::read_u32(bytes, 0);
     if 4096 < len {
