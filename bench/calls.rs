@@ -4,6 +4,8 @@
 #[allow(dead_code)]
 #[path = "../oracle/src/store.rs"]
 mod index;
+#[path = "../oracle/src/places.rs"]
+mod places;
 #[allow(dead_code)]
 mod plain;
 #[allow(dead_code)]
@@ -66,16 +68,17 @@ fn read_path(w: &[u64], row: u64) -> u64 {
     let c = w[0] as usize;
     let (mut n, mut sum) = (w[2] as usize, 0u64);
     loop {
-        let at = 8 + n * (4 + 2 * c);
-        let node = &w[at..at + 4 + 2 * c];
-        let used = &node[..4 + 2 * node[1] as usize];
-        sum = used.iter().fold(sum, |a, b| a.wrapping_add(*b));
+        let node = places::node(w, c, n);
+        let count = node[1] as usize;
+        for part in places::used(node, c, count) {
+            sum = part.iter().fold(sum, |a, b| a.wrapping_add(*b));
+        }
         if node[0] == 0 {
             return sum;
         }
-        let pairs = node[4..4 + 2 * node[1] as usize].chunks_exact(2);
-        let place = pairs.len() - pairs.rev().position(|p| p[0] <= row).unwrap_or(0);
-        n = node[3 + 2 * place] as usize;
+        let rows = places::rows(node, count).chunks_exact(places::STEP);
+        let place = rows.len() - 1 - rows.rev().position(|r| r[0] <= row).unwrap_or(0);
+        n = node[places::number(c, place)] as usize;
     }
 }
 

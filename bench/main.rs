@@ -1,5 +1,7 @@
 //! Times of the proved node test and of the proved reading of a whole tree, beside plain Rust. Prints tables in Markdown.
 
+#[path = "../oracle/src/places.rs"]
+mod places;
 #[allow(dead_code)]
 mod plain;
 #[allow(dead_code)]
@@ -130,8 +132,9 @@ fn check() {
                 if answer == plain::REFUSED { unsound += 1 } else { sound += 1 }
             }
             let n = random.below(good[1] + 1);
-            let at = 8 + (n * (4 + 2 * capacity as u64)) as usize;
-            let (height, row, end) = words.get(at..at + 4).map_or((0, 0, 0), |node| (node[0], node[2], node[3]));
+            let at = places::first(capacity, n as usize);
+            let header = words.get(at..at + places::HEADER);
+            let (height, row, end) = header.map_or((0, 0, 0), |node| (node[0], node[2], node[3]));
             for next in [None, Some(end), Some(row)] {
                 assert_eq!(rattle::test_node(&words, n, height, row, next), plain::test_node(&words, n, height, row, next));
             }
@@ -151,9 +154,8 @@ fn main() {
     let mut tests = Vec::new();
     for (kind, node, height) in [("full leaf", 1, 0), ("full branch", 0, 1)] {
         for (capacity, words) in &full {
-            let size = 4 + 2 * capacity;
-            let at = 8 + node as usize * size;
-            let (used, row, next) = (&words[at..at + size], words[at + 2], Some(words[at + 3]));
+            let used = places::node(words, *capacity, node as usize);
+            let (size, row, next) = (used.len(), used[2], Some(used[3]));
             assert_eq!(rattle::test_node(words, node, height, row, next), *capacity as u64);
             assert_eq!(plain::test_node(words, node, height, row, next), *capacity as u64);
             let fns: Vec<Call> = vec![

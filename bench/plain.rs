@@ -1,5 +1,6 @@
 //! What the proved functions are compared with: plain safe Rust that makes the same checks, and a sum.
 
+use crate::places::{self, NUMBER, STEP};
 use crate::store::{FREE_MARK, MAX_HEIGHT, MAX_POOL, NONE, ROW_LIMIT};
 
 pub const REFUSED: u64 = u64::MAX;
@@ -20,34 +21,34 @@ struct Store<'a> {
 }
 
 fn open(words: &[u64]) -> Option<Store<'_>> {
-    let &[capacity, pool, root, free_head, free_count, _, _, _, ..] = words else { return None };
+    let &[capacity, pool, root, free_head, free_count, ..] = words else { return None };
     let good = (2..=4094).contains(&capacity)
         && (1..=MAX_POOL as u64).contains(&pool)
-        && words.len() as u64 == 8 + pool * (4 + 2 * capacity)
+        && words.len() as u64 == places::store_length(capacity, pool)
         && root < pool
         && free_head <= pool
         && free_count <= pool;
     good.then_some(Store { words, capacity: capacity as usize, pool: pool as usize, root: root as usize })
 }
 
-/// Whether the rows of the pairs rise strictly, above `before`. With FOUR, four rows a turn.
-fn rise<const FOUR: bool>(mut before: u64, pairs: &[u64]) -> bool {
-    let mut rest = pairs;
+/// Whether these rows rise strictly, above `before`. With FOUR, four rows a turn.
+fn rise<const FOUR: bool>(mut before: u64, rows: &[u64]) -> bool {
+    let mut rest = rows;
     if FOUR {
-        let mut turns = pairs.chunks_exact(8);
-        for p in &mut turns {
-            if p[0] <= before || p[2] <= p[0] || p[4] <= p[2] || p[6] <= p[4] {
+        let mut turns = rows.chunks_exact(4 * STEP);
+        for r in &mut turns {
+            if r[0] <= before || r[STEP] <= r[0] || r[2 * STEP] <= r[STEP] || r[3 * STEP] <= r[2 * STEP] {
                 return false;
             }
-            before = p[6];
+            before = r[3 * STEP];
         }
         rest = turns.remainder();
     }
-    for p in rest.chunks_exact(2) {
-        if p[0] <= before {
+    for r in rest.chunks_exact(STEP) {
+        if r[0] <= before {
             return false;
         }
-        before = p[0];
+        before = r[0];
     }
     true
 }
@@ -58,18 +59,17 @@ fn end_fits(node: &[u64], height: u64, next: Option<u64>) -> bool {
 
 impl<'a> Store<'a> {
     fn node(&self, n: usize) -> &'a [u64] {
-        let size = 4 + 2 * self.capacity;
-        &self.words[8 + n * size..][..size]
+        places::node(self.words, self.capacity, n)
     }
 
     /// The node test: the first child number out of range, or the count.
     fn test<const FOUR: bool>(&self, node: &[u64], height: u64, row: u64, next: Option<u64>) -> Option<usize> {
         let count = node[1] as usize;
-        if node[0] != height || count < 1 || self.capacity < count || node[2] != row || node[4] != row {
+        if node[0] != height || count < 1 || self.capacity < count || node[2] != row || node[places::row(0)] != row {
             return None;
         }
-        let (end, pairs) = (node[3], &node[4..4 + 2 * count]);
-        let last = pairs[2 * count - 2];
+        let (end, rows) = (node[3], places::rows(node, count));
+        let last = rows[STEP * (count - 1)];
         let ends = if height == 0 {
             last < end && end <= ROW_LIMIT && next.is_none_or(|r| end == r)
         } else {
@@ -78,13 +78,14 @@ impl<'a> Store<'a> {
         if !ends {
             return None;
         }
-        if !rise::<FOUR>(row, &pairs[2..]) {
+        if !rise::<FOUR>(row, &rows[STEP..]) {
             return None;
         }
         if height == 0 {
             return Some(count);
         }
-        Some(pairs.chunks_exact(2).position(|pair| self.pool as u64 <= pair[1]).unwrap_or(count))
+        let mut numbers = places::numbers(node, self.capacity, count).chunks_exact(STEP);
+        Some(numbers.position(|n| self.pool as u64 <= n[NUMBER]).unwrap_or(count))
     }
 
     /// The node test, and with ends the test of a branch's end.
@@ -143,10 +144,10 @@ fn walk<const FOUR: bool, const ONCE: bool>(words: &[u64], ends: bool) -> u64 {
             return REFUSED;
         }
         top.index += 1;
-        let pairs = &node[4..4 + 2 * count];
-        let next = if index + 1 < count { Some(pairs[2 * index + 2]) } else { top.next };
-        let child = s.node(pairs[2 * index + 1] as usize);
-        let Some(first) = s.pass::<FOUR>(child, ends, node[0] - 1, pairs[2 * index], next) else { return REFUSED };
+        let rows = places::rows(node, count);
+        let next = if index + 1 < count { Some(rows[STEP * (index + 1)]) } else { top.next };
+        let child = s.node(node[places::number(s.capacity, index)] as usize);
+        let Some(first) = s.pass::<FOUR>(child, ends, node[0] - 1, rows[STEP * index], next) else { return REFUSED };
         right &= !ONCE || end_fits(child, node[0] - 1, next);
         nodes += 1;
         stack.push(Frame { node: child, index: 0, first, next });
@@ -199,21 +200,20 @@ pub fn destroy<const FOUR: bool>(words: &mut [u64], pages: &mut [u64]) -> u64 {
         return REFUSED;
     }
     let (capacity, pool, root) = (words[0] as usize, words[1], words[2]);
-    let size = 4 + 2 * capacity;
     let mut stack = vec![(root, 0usize)];
     let mut place = 0;
     while let Some(top) = stack.last_mut() {
         let (n, index) = *top;
-        let at = 8 + n as usize * size;
+        let at = places::first(capacity, n as usize);
         if words[at] != 0 && index < words[at + 1] as usize {
             top.1 = index + 1;
-            stack.push((words[at + 5 + 2 * index], 0));
+            stack.push((words[at + places::number(capacity, index)], 0));
             continue;
         }
         if words[at] == 0 {
             for i in 0..words[at + 1] as usize {
                 let Some(page) = pages.get_mut(place) else { return REFUSED };
-                *page = words[at + 5 + 2 * i];
+                *page = words[at + places::number(capacity, i)];
                 place += 1;
             }
         }
@@ -222,10 +222,10 @@ pub fn destroy<const FOUR: bool>(words: &mut [u64], pages: &mut [u64]) -> u64 {
     let mut stack = vec![(root, 0usize)];
     while let Some(top) = stack.last_mut() {
         let (n, index) = *top;
-        let at = 8 + n as usize * size;
+        let at = places::first(capacity, n as usize);
         if words[at] != 0 && index < words[at + 1] as usize {
             top.1 = index + 1;
-            stack.push((words[at + 5 + 2 * index], 0));
+            stack.push((words[at + places::number(capacity, index)], 0));
             continue;
         }
         words[at] = FREE_MARK;

@@ -1,5 +1,7 @@
 //! Stores in memory, with the words that appends would leave.
 
+use crate::places;
+
 pub const FREE_MARK: u64 = u32::MAX as u64;
 pub const NONE: u64 = u64::MAX;
 pub const ROW_LIMIT: u64 = 1 << 62;
@@ -8,7 +10,7 @@ pub const MAX_POOL: usize = 65535;
 /// Rows of a page.
 pub const ROWS: u64 = 10;
 
-/// The nodes of a store, each of 4 + 2 × C words; node 0 is the root.
+/// The nodes of a store, each with all its words; node 0 is the root.
 pub struct Builder {
     capacity: usize,
     nodes: Vec<Vec<u64>>,
@@ -27,8 +29,8 @@ impl Builder {
 
     /// The next node of the pool, without entries.
     pub fn take(&mut self, height: u64, start: u64) -> usize {
-        let mut words = vec![0; 4 + 2 * self.capacity];
-        words[..4].copy_from_slice(&[height, 0, start, NONE]);
+        let mut words = vec![0; places::node_size(self.capacity)];
+        words[..places::HEADER].copy_from_slice(&[height, 0, start, NONE]);
         self.nodes.push(words);
         self.nodes.len() - 1
     }
@@ -39,8 +41,9 @@ impl Builder {
 
     pub fn add_pair(&mut self, n: usize, row: u64, number: u64) {
         let words = &mut self.nodes[n];
-        let at = 4 + 2 * words[1] as usize;
-        words[at..at + 2].copy_from_slice(&[row, number]);
+        let count = words[1] as usize;
+        words[places::row(count)] = row;
+        words[places::number(self.capacity, count)] = number;
         words[1] += 1;
     }
 
@@ -70,7 +73,7 @@ impl Builder {
             if words[0] == 0 {
                 break;
             }
-            edge.push(words[3 + 2 * words[1] as usize] as usize);
+            edge.push(words[places::number(self.capacity, words[1] as usize - 1)] as usize);
         }
         let leaf = edge[edge.len() - 1];
         let row = if self.nodes[leaf][1] == 0 { self.nodes[leaf][2] } else { self.nodes[leaf][3] };
@@ -89,7 +92,7 @@ impl Builder {
                 self.nodes[copy] = self.nodes[0].clone();
                 self.set_end(copy, row);
                 let top = self.new_path(height, row, page);
-                self.nodes[0][..4].copy_from_slice(&[height + 1, 0, start, NONE]);
+                self.nodes[0][..places::HEADER].copy_from_slice(&[height + 1, 0, start, NONE]);
                 self.add_pair(0, start, copy as u64);
                 self.add_pair(0, row, top as u64);
             }
@@ -101,7 +104,8 @@ impl Builder {
     pub fn words(&self) -> Vec<u64> {
         let pool = self.len() as u64;
         assert!(self.len() <= MAX_POOL);
-        let mut words = vec![self.capacity as u64, pool, 0, pool, 0, 0, 0, 0];
+        let mut words = vec![self.capacity as u64, pool, 0, pool, 0];
+        words.resize(places::STORE_HEADER, 0);
         words.extend(self.nodes.iter().flatten());
         words
     }

@@ -8,9 +8,9 @@
 
 #define CAPACITY 2
 #define NODES 16
-#define ANSWER 5
+#define ANSWER ROW_PAGE_INDEX_ANSWER
 
-static uint64_t words[8 + NODES * (4 + 2 * CAPACITY)];
+static uint64_t words[ROW_PAGE_INDEX_WORDS(CAPACITY, NODES)];
 #define WORDS (sizeof words / sizeof words[0])
 
 /* One line for an answer: the name and the values, or the refusal. */

@@ -3,18 +3,23 @@
    (`rt staticlib script`). docs/HOST.md tells what they mean; include/example.c and include/script_example.c are programs
    that call them.
 
-   A store is a lent array of 8 + nodes * (4 + 2 * capacity) words. A lent array is a pointer, never null and aligned for
+   A store is a lent array of ROW_PAGE_INDEX_WORDS(capacity, nodes) words. A lent array is a pointer, never null and aligned for
    uint64_t, and a length in words. Arrays lent to one call must not overlap.
 
    Each function but row_page_index_seek and row_page_script returns 0, or the number of a refusal (1 to 13), and then
-   nothing lent has changed but the answer. It writes five words into `answer`, as far as they fit:
+   nothing lent has changed but the answer. It writes seven words into `answer`, as far as they fit:
      result:  0, how many values there are (0 to 3), the values, then 0
-     refusal: its number, 1, its detail, 0, 0 */
+     refusal: its number, 1, its detail, then 0
+   Five words are enough for the functions below; seven have room for five values. */
 #ifndef ROW_PAGE_INDEX_H
 #define ROW_PAGE_INDEX_H
 
 #include <stddef.h>
 #include <stdint.h>
+
+/* The words of a store, and of an answer. */
+#define ROW_PAGE_INDEX_WORDS(capacity, nodes) (8 + (nodes) * (4 + 2 * (capacity)))
+#define ROW_PAGE_INDEX_ANSWER 7
 
 #ifdef __cplusplus
 extern "C" {
@@ -53,7 +58,8 @@ uint64_t row_page_index_check(const uint64_t *words, size_t words_len, uint64_t 
 void row_page_index_seek(uint64_t *cursor, size_t cursor_len, uint64_t row);
 
 /* The leaf that the cursor reaches; the cursor then keeps its end. Values: start, end, count; or no value where the walk is
-   done. Row and page of each entry go into the front of `records`, which needs 2 * capacity words. */
+   done, and then the cursor stays as it is, as it does at a refusal. Row and page of each entry go into the front of
+   `records`, which needs 2 * capacity words. */
 uint64_t row_page_index_next(const uint64_t *words, size_t words_len, uint64_t *cursor, size_t cursor_len, uint64_t *records,
                              size_t records_len, uint64_t *answer, size_t answer_len);
 

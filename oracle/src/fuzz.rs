@@ -2,6 +2,7 @@
 //! `script::read` says, and the function may touch nothing but its two slices.
 use crate::guarded::Guarded;
 use crate::pair::LIMIT;
+use crate::places;
 use crate::random::{self, Random};
 use crate::script::{self, LONGEST, Memory, Read, Record, WORDS};
 use std::collections::BTreeMap;
@@ -33,14 +34,15 @@ fn edge(r: &mut Random) -> u64 {
 /// Mostly one that is accepted, of few entries a node.
 fn create(r: &mut Random) -> Vec<u64> {
     let good = r.below(6) > 0;
+    let widest = places::widest(WORDS as usize - places::STORE_HEADER) as u64;
     let capacity = match r.below(20) {
         0 if !good => edge(r),
         0..4 if !good => r.below(5000),
-        0 => 2 + r.below(2041),
+        0 => 2 + r.below(widest - 1),
         1..4 => 2 + r.below(70),
         _ => 2 + r.below(3),
     };
-    let most = ((WORDS - 8) / (4 + 2 * capacity.min(5000))).max(1);
+    let most = script::most_nodes(capacity.min(5000)).max(1);
     let nodes = match r.below(8) {
         0 if !good => edge(r),
         0..4 if !good => r.below(70_000),
@@ -80,7 +82,7 @@ fn prune(r: &mut Random, memory: &Memory) -> Vec<u64> {
 /// A tree that fills the memory at C = 2 or 3, and walks over it: a listing longer than a pipe holds.
 fn deep(r: &mut Random) -> Vec<Record> {
     let capacity = 2 + r.below(2);
-    let nodes = (WORDS - 8) / (4 + 2 * capacity);
+    let nodes = script::most_nodes(capacity);
     let mut records = vec![Record { kind: 1, words: vec![capacity, nodes, random::start(r)] }];
     records.extend((0..700).map(|k| Record { kind: 2, words: vec![1 + r.below(5), k] }));
     records.extend((0..20 + r.below(40)).map(|_| Record { kind: 5, words: vec![r.below(2)] }));

@@ -7,7 +7,9 @@ mod differences;
 mod exhaustive;
 mod fuzz;
 mod guarded;
+mod lent;
 mod pair;
+mod places;
 mod probe;
 mod random;
 mod record;
@@ -38,6 +40,8 @@ fn compare(wanted: impl Fn(u64) -> bool) -> bool {
     differences::smallest(&mut tally);
     probe::creates(&mut tally);
     say("smallest inputs of the listed differences");
+    lent::run(&mut tally, 200_000);
+    say("what calls leave of what they are lent");
     for capacity in (2..=5).filter(|c| wanted(*c)) {
         let create = listed_at(capacity);
         let found = exhaustive::outlines(&mut tally, create, capacity, [0, 0, 32, 36, 40, 46][capacity as usize]);

@@ -1,6 +1,7 @@
 //! Calls on one state of a pair: lookups, walks, cuts, releases, and calls that are refused. What is accepted and changes
 //! something is made on a copy.
 use crate::pair::{LIMIT, Pair};
+use crate::places;
 use crate::shape::NONE;
 use crate::store::{Cursor, Refusal, Store};
 use crate::tally::{Difference, Kind, OTHER, Tally};
@@ -180,8 +181,8 @@ pub fn creates(tally: &mut Tally) {
         one(tally, 100, 2, p, 0, 1);
     }
     for c in [2, 3, 64, 4094] {
-        let exact = Store::length(c, 3);
-        for length in [0, 7, 8, exact - 1, exact + 1] {
+        let (header, exact) = (places::STORE_HEADER as u64, Store::length(c, 3));
+        for length in [0, header - 1, header, exact - 1, exact + 1] {
             one(tally, length, c, 3, LIMIT + 1, 1);
         }
         for start in [LIMIT + 1, NONE] {

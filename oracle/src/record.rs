@@ -3,7 +3,7 @@
 use crate::listed_at;
 use crate::pair::{Call, LIMIT, Pair};
 use crate::random::{self, Random};
-use crate::script::{self, LONGEST, Record, WORDS, lines};
+use crate::script::{self, LONGEST, Record, lines};
 use crate::store::Store;
 use crate::tally::{Kind, OTHER, Tally};
 use std::collections::BTreeMap;
@@ -188,7 +188,7 @@ fn refused_create(r: &mut Recorder, random: &mut Random, capacity: u64) {
         1 => c = 4095 + random.below(3),
         2 => p = 0,
         3 => p = 65_536 + random.below(3),
-        4 => p = (WORDS - 8) / (4 + 2 * capacity) + 1 + random.below(1000),
+        4 => p = script::most_nodes(capacity) + 1 + random.below(1000),
         _ => start = LIMIT + 1 + (random.word() >> 2),
     }
     r.call(Call::Create(c, p, start));
@@ -233,7 +233,7 @@ fn sample(r: &mut Recorder, random: &mut Random, capacity: u64, nodes: u64, star
 
 /// Seeded scripts at one capacity, each of two stores in the same words.
 pub fn scripts(tally: &mut Tally, capacity: u64, count: u64) {
-    let most = (WORDS - 8) / (4 + 2 * capacity);
+    let most = script::most_nodes(capacity);
     for seed in 0..count {
         let mut random = Random::new(seed * 65_537 + capacity);
         let mut r = Recorder::new(tally);
@@ -258,7 +258,7 @@ pub fn write(folder: &Path) -> bool {
     edges(&mut r);
     for capacity in [2, 3, 4, 5, 8, 16, 64] {
         let mut random = Random::new(capacity);
-        for nodes in [12, (WORDS - 8) / (4 + 2 * capacity)] {
+        for nodes in [12, script::most_nodes(capacity)] {
             sample(&mut r, &mut random, capacity, nodes, 100 * capacity, 20 + 200 / capacity);
         }
     }

@@ -1,5 +1,6 @@
 //! The C function `row_page_script` of `include/row_page_index.h`; and 01, 'Script program', read here a second time, over the
 //! C functions of a store.
+use crate::places;
 use crate::store::{Cursor, Leaf, Refusal, Store};
 use std::fmt::Write as _;
 
@@ -76,6 +77,11 @@ pub fn lines<T>(answer: Result<T, Refusal>, text: impl FnOnce(T) -> String) -> S
 pub fn create_length(capacity: u64, nodes: u64) -> u64 {
     let fits = (2..=4094).contains(&capacity) && (1..=65_535).contains(&nodes);
     if fits { Store::length(capacity, nodes).min(WORDS) } else { WORDS }
+}
+
+/// The most nodes that a store of this capacity has in a script's memory.
+pub fn most_nodes(capacity: u64) -> u64 {
+    (WORDS - places::STORE_HEADER as u64) / places::node_size(capacity as usize) as u64
 }
 
 /// The words that the calls get, and those after them.

@@ -1,25 +1,35 @@
 //! The shape of a tree: the nodes in reading order, each as height, count, start, end, rows, and in a leaf the pages.
+use crate::places;
 use calls::Leaf;
 
 pub const NONE: u64 = u64::MAX;
 
-/// The shape of the tree in a store's words, read by the places of document 01, 'Node words'.
+/// The words of a node.
+fn node(words: &[u64], number: u64) -> &[u64] {
+    places::node(words, words[0] as usize, number as usize)
+}
+
+/// The page or child numbers in use of a node.
+fn numbers(words: &[u64], number: u64) -> impl Iterator<Item = &u64> {
+    let node = node(words, number);
+    places::numbers(node, words[0] as usize, node[1] as usize).iter().skip(places::NUMBER).step_by(places::STEP)
+}
+
+/// The shape of the tree in a store's words.
 pub fn of_words(words: &[u64]) -> Vec<u64> {
     let mut out = Vec::new();
-    node(words, words[2] as usize, &mut out);
+    before_children(words, words[2], &mut out);
     out
 }
 
-fn node(words: &[u64], number: usize, out: &mut Vec<u64>) {
-    let at = 8 + number * (4 + 2 * words[0] as usize);
-    let (height, count) = (words[at], words[at + 1] as usize);
-    out.extend_from_slice(&words[at..at + 4]);
-    let pairs = &words[at + 4..at + 4 + 2 * count];
-    out.extend(pairs.iter().step_by(2));
-    if height == 0 {
-        out.extend(pairs.iter().skip(1).step_by(2));
+fn before_children(words: &[u64], number: u64, out: &mut Vec<u64>) {
+    let node = node(words, number);
+    out.extend(&node[..places::HEADER]);
+    out.extend(places::rows(node, node[1] as usize).iter().step_by(places::STEP));
+    if node[0] == 0 {
+        out.extend(numbers(words, number));
     } else {
-        pairs.iter().skip(1).step_by(2).for_each(|n| node(words, *n as usize, out));
+        numbers(words, number).for_each(|n| before_children(words, *n, out));
     }
 }
 
@@ -31,18 +41,16 @@ pub fn postorder(words: &[u64]) -> Vec<[u64; 3]> {
 }
 
 fn after_children(words: &[u64], number: u64, out: &mut Vec<[u64; 3]>) {
-    let at = 8 + number as usize * (4 + 2 * words[0] as usize);
-    if words[at] > 0 {
-        for i in 0..words[at + 1] as usize {
-            after_children(words, words[at + 5 + 2 * i], out);
-        }
+    let node = node(words, number);
+    if node[0] > 0 {
+        numbers(words, number).for_each(|n| after_children(words, *n, out));
     }
-    out.push([number, words[at], words[at + 2]]);
+    out.push([number, node[0], node[2]]);
 }
 
 /// The first word of a node.
 pub fn height(words: &[u64], number: u64) -> u64 {
-    words[8 + number as usize * (4 + 2 * words[0] as usize)]
+    node(words, number)[0]
 }
 
 /// The first so many numbers of a store's free chain.
@@ -51,7 +59,7 @@ pub fn chain(words: &[u64], count: usize) -> Vec<u64> {
     let mut number = words[3];
     while out.len() < count && number < words[1] {
         out.push(number);
-        number = words[8 + number as usize * (4 + 2 * words[0] as usize) + 1];
+        number = node(words, number)[1];
     }
     out
 }

@@ -1,5 +1,5 @@
-//! The C functions of `include/row_page_index.h` as methods of a store that owns its words. Every call answers with its values
-//! or with a refusal, which changed nothing.
+//! The C functions of `include/row_page_index.h`: on slices as they are (`lent`), and as methods of a store that owns its words.
+//! Every call answers with its values or with a refusal, which changed nothing.
 
 /// A slice is a pointer and then a length. A null pointer never occurs here: the pointer of an empty slice is not null.
 mod library {
@@ -63,6 +63,70 @@ mod library {
     }
 }
 
+/// The C functions on slices of any length. Each returns the answer's first word.
+pub mod lent {
+    use super::library::*;
+
+    pub fn create(words: &mut [u64], capacity: u64, nodes: u64, start: u64, answer: &mut [u64]) -> u64 {
+        let (w, a) = (words, answer);
+        unsafe { row_page_index_create(w.as_mut_ptr(), w.len(), capacity, nodes, start, a.as_mut_ptr(), a.len()) }
+    }
+
+    pub fn append(words: &mut [u64], count: u64, page: u64, answer: &mut [u64]) -> u64 {
+        let (w, a) = (words, answer);
+        unsafe { row_page_index_append(w.as_mut_ptr(), w.len(), count, page, a.as_mut_ptr(), a.len()) }
+    }
+
+    pub fn find(words: &[u64], row: u64, answer: &mut [u64]) -> u64 {
+        let (w, a) = (words, answer);
+        unsafe { row_page_index_find(w.as_ptr(), w.len(), row, a.as_mut_ptr(), a.len()) }
+    }
+
+    pub fn prune(words: &mut [u64], start: u64, end: u64, ids: &[u64], answer: &mut [u64]) -> u64 {
+        let (w, i, a) = (words, ids, answer);
+        unsafe {
+            row_page_index_prune(w.as_mut_ptr(), w.len(), start, end, i.as_ptr(), i.len(), a.as_mut_ptr(), a.len())
+        }
+    }
+
+    pub fn destroy(words: &mut [u64], pivot: u64, pages: &mut [u64], answer: &mut [u64]) -> u64 {
+        let (w, p, a) = (words, pages, answer);
+        unsafe {
+            row_page_index_destroy(w.as_mut_ptr(), w.len(), pivot, p.as_mut_ptr(), p.len(), a.as_mut_ptr(), a.len())
+        }
+    }
+
+    pub fn destroy_empty(words: &mut [u64], answer: &mut [u64]) -> u64 {
+        let (w, a) = (words, answer);
+        unsafe { row_page_index_destroy_empty(w.as_mut_ptr(), w.len(), a.as_mut_ptr(), a.len()) }
+    }
+
+    pub fn check(words: &[u64], answer: &mut [u64]) -> u64 {
+        let (w, a) = (words, answer);
+        unsafe { row_page_index_check(w.as_ptr(), w.len(), a.as_mut_ptr(), a.len()) }
+    }
+
+    pub fn seek(cursor: &mut [u64], row: u64) {
+        unsafe { row_page_index_seek(cursor.as_mut_ptr(), cursor.len(), row) }
+    }
+
+    pub fn next(words: &[u64], cursor: &mut [u64], records: &mut [u64], answer: &mut [u64]) -> u64 {
+        let (w, c, r, a) = (words, cursor, records, answer);
+        unsafe {
+            row_page_index_next(
+                w.as_ptr(),
+                w.len(),
+                c.as_mut_ptr(),
+                c.len(),
+                r.as_mut_ptr(),
+                r.len(),
+                a.as_mut_ptr(),
+                a.len(),
+            )
+        }
+    }
+}
+
 /// Number and detail of the table in document 01, 'Refusals'.
 #[derive(Debug, Clone, Copy, PartialEq, Eq)]
 pub struct Refusal {
@@ -105,17 +169,24 @@ pub struct Leaf {
     pub count: u64,
 }
 
-/// The five words of an answer: 0 and how many values there are, or the refusal's number and 1; then the values.
-type Answer = [u64; 5];
+/// The seven words of an answer: 0 and how many values there are, or the refusal's number and 1; then the values, up to five.
+pub type Answer = [u64; 7];
 
-/// The values of an answer, none where it has none.
+/// The values of an answer, none where it has none. No call has more than three.
 fn values(number: u64, answer: Answer) -> Result<Option<[u64; 3]>, Refusal> {
     assert_eq!(number, answer[0], "the number returned is the answer's first word");
     match answer {
         [0, 0, ..] => Ok(None),
-        [0, _, a, b, c] => Ok(Some([a, b, c])),
+        [0, _, a, b, c, ..] => Ok(Some([a, b, c])),
         [number, _, detail, ..] => Err(Refusal { number, detail }),
     }
+}
+
+/// The values of a call that writes its answer.
+fn asked(call: impl FnOnce(&mut [u64]) -> u64) -> Result<Option<[u64; 3]>, Refusal> {
+    let mut answer = Answer::default();
+    let number = call(&mut answer);
+    values(number, answer)
 }
 
 /// Row and whether it is done. A new cursor was never sought: it is done.
@@ -128,7 +199,7 @@ impl Cursor {
     }
 
     pub fn seek(&mut self, row: u64) {
-        unsafe { library::row_page_index_seek(self.0.as_mut_ptr(), self.0.len(), row) }
+        lent::seek(&mut self.0, row)
     }
 }
 
@@ -141,7 +212,7 @@ pub struct Store {
 impl Store {
     /// The words that a store of so many nodes for `capacity` entries each has.
     pub fn length(capacity: u64, nodes: u64) -> u64 {
-        8 + nodes * (4 + 2 * capacity)
+        crate::places::store_length(capacity, nodes)
     }
 
     /// A store in zero words of the length that it needs.
@@ -153,94 +224,44 @@ impl Store {
 
     /// A new store in the words that are here.
     pub fn create(&mut self, capacity: u64, nodes: u64, start: u64) -> Result<(), Refusal> {
-        let (w, mut a) = (&mut self.words, Answer::default());
-        let number = unsafe {
-            library::row_page_index_create(w.as_mut_ptr(), w.len(), capacity, nodes, start, a.as_mut_ptr(), a.len())
-        };
-        values(number, a).map(|_| ())
+        asked(|a| lent::create(&mut self.words, capacity, nodes, start, a)).map(|_| ())
     }
 
     pub fn append(&mut self, count: u64, page: u64) -> Result<Appended, Refusal> {
-        let (w, mut a) = (&mut self.words, Answer::default());
-        let number =
-            unsafe { library::row_page_index_append(w.as_mut_ptr(), w.len(), count, page, a.as_mut_ptr(), a.len()) };
-        let [start, end, taken] = values(number, a)?.unwrap();
+        let [start, end, taken] = asked(|a| lent::append(&mut self.words, count, page, a))?.unwrap();
         Ok(Appended { start, end, taken })
     }
 
     /// The page of a row.
     pub fn find(&self, row: u64) -> Result<Option<u64>, Refusal> {
-        let (w, mut a) = (&self.words, Answer::default());
-        let number = unsafe { library::row_page_index_find(w.as_ptr(), w.len(), row, a.as_mut_ptr(), a.len()) };
-        Ok(values(number, a)?.map(|v| v[0]))
+        Ok(asked(|a| lent::find(&self.words, row, a))?.map(|v| v[0]))
     }
 
     pub fn prune(&mut self, start: u64, end: u64, ids: &[u64]) -> Result<Pruned, Refusal> {
-        let (w, mut a) = (&mut self.words, Answer::default());
-        let number = unsafe {
-            library::row_page_index_prune(
-                w.as_mut_ptr(),
-                w.len(),
-                start,
-                end,
-                ids.as_ptr(),
-                ids.len(),
-                a.as_mut_ptr(),
-                a.len(),
-            )
-        };
-        let [removed, freed, levels] = values(number, a)?.unwrap();
+        let [removed, freed, levels] = asked(|a| lent::prune(&mut self.words, start, end, ids, a))?.unwrap();
         Ok(Pruned { removed, freed, levels })
     }
 
     /// The page ids go into the front of `pages`.
     pub fn destroy(&mut self, pivot: u64, pages: &mut [u64]) -> Result<Released, Refusal> {
-        let (w, mut a) = (&mut self.words, Answer::default());
-        let number = unsafe {
-            library::row_page_index_destroy(
-                w.as_mut_ptr(),
-                w.len(),
-                pivot,
-                pages.as_mut_ptr(),
-                pages.len(),
-                a.as_mut_ptr(),
-                a.len(),
-            )
-        };
-        let [nodes, pages, _] = values(number, a)?.unwrap();
+        let [nodes, pages, _] = asked(|a| lent::destroy(&mut self.words, pivot, pages, a))?.unwrap();
         Ok(Released { nodes, pages })
     }
 
     pub fn destroy_empty(&mut self) -> Result<Released, Refusal> {
-        let (w, mut a) = (&mut self.words, Answer::default());
-        let number = unsafe { library::row_page_index_destroy_empty(w.as_mut_ptr(), w.len(), a.as_mut_ptr(), a.len()) };
-        let [nodes, pages, _] = values(number, a)?.unwrap();
+        let [nodes, pages, _] = asked(|a| lent::destroy_empty(&mut self.words, a))?.unwrap();
         Ok(Released { nodes, pages })
     }
 
     pub fn check(&self) -> Result<Checked, Refusal> {
-        let (w, mut a) = (&self.words, Answer::default());
-        let number = unsafe { library::row_page_index_check(w.as_ptr(), w.len(), a.as_mut_ptr(), a.len()) };
-        let [entries, nodes, free] = values(number, a)?.unwrap();
+        let [entries, nodes, free] = asked(|a| lent::check(&self.words, a))?.unwrap();
         Ok(Checked { entries, nodes, free })
     }
 
     /// The leaf that the cursor reaches, none where it is done; row and page of each entry go into the front of `records`,
     /// which has two words for each of a node's entries.
     pub fn next(&self, cursor: &mut Cursor, records: &mut [u64]) -> Result<Option<Leaf>, Refusal> {
-        let (w, mut a) = (&self.words, Answer::default());
-        let number = unsafe {
-            library::row_page_index_next(
-                w.as_ptr(),
-                w.len(),
-                cursor.0.as_mut_ptr(),
-                cursor.0.len(),
-                records.as_mut_ptr(),
-                records.len(),
-                a.as_mut_ptr(),
-                a.len(),
-            )
-        };
-        Ok(values(number, a)?.map(|[start, end, count]| Leaf { start, end, count }))
+        let given = asked(|a| lent::next(&self.words, &mut cursor.0, records, a))?;
+        Ok(given.map(|[start, end, count]| Leaf { start, end, count }))
     }
 }

@@ -51,6 +51,9 @@ pub struct Tally {
     pub met: BTreeMap<Difference, u64>,
     /// The port's refusals that were compared, by number.
     refusals: BTreeMap<u64, u64>,
+    /// Calls on lent arrays of any words, by the number that they returned, and those that gave none.
+    lent: BTreeMap<u64, u64>,
+    none: u64,
     /// How many, and the shortest of them.
     unlisted: u64,
     shortest: Vec<String>,
@@ -67,6 +70,11 @@ impl Tally {
 
     pub fn refusal(&mut self, number: u64) {
         *self.refusals.entry(number).or_default() += 1;
+    }
+
+    pub fn lent(&mut self, number: u64, none: bool) {
+        *self.lent.entry(number).or_default() += 1;
+        self.none += none as u64;
     }
 
     pub fn unlisted(&mut self, text: String) {
@@ -96,6 +104,9 @@ impl Tally {
         println!("\n{} calls compared", sums.iter().sum::<u64>());
         print!("refusals by number:");
         self.refusals.iter().for_each(|(number, n)| print!(" {number}: {n}"));
+        println!();
+        print!("{} calls on lent arrays of any words, {} gave none; by number:", self.lent.values().sum::<u64>(), self.none);
+        self.lent.iter().for_each(|(number, n)| print!(" {number}: {n}"));
         println!();
         for (d, text) in DIFFERENCES {
             println!("difference {}: met {} times ({text})", d as u8, self.met.get(&d).copied().unwrap_or(0));

@@ -38,18 +38,20 @@ pub fn number_of(r: Refusal) -> Numbered
     }
 }
 
-// Five words of an answer: number 0 and so many values, or a refusal's number and its detail as the only value.
+// Seven words of an answer: number 0 and so many values, or a refusal's number and its detail as the only value.
 pub struct Numbers {
     pub number: u64,
     pub count: u64,
     pub first: u64,
     pub second: u64,
     pub third: u64,
+    pub fourth: u64,
+    pub fifth: u64,
 }
 
 // So many of three values.
 fn values(count: u64, first: u64, second: u64, third: u64) -> Numbers
-    ensures { λ n. ⌜ wordsOf n ≡ 0 ∷ count ∷ first ∷ second ∷ third ∷ [] ⌝ }
+    ensures { λ n. ⌜ wordsOf n ≡ 0 ∷ count ∷ first ∷ second ∷ third ∷ 0 ∷ 0 ∷ [] ⌝ }
 {
     Numbers {
         number: 0,
@@ -57,6 +59,8 @@ fn values(count: u64, first: u64, second: u64, third: u64) -> Numbers
         first,
         second,
         third,
+        fourth: 0,
+        fifth: 0,
     }
 }
 
@@ -70,6 +74,8 @@ fn refusal_numbers(r: Refusal) -> Numbers
         first: x.1,
         second: 0,
         third: 0,
+        fourth: 0,
+        fifth: 0,
     }
 }
 
@@ -151,7 +157,7 @@ pub fn put(out: &mut [u64], i: usize, x: u64)
     }
 }
 
-// The five words, as far as they fit.
+// The seven words, as far as they fit.
 pub fn write(out: &mut [u64], n: Numbers)
     ensures { λ _. ⌜ now (out .exit) ≡ fill (now (out .entry)) 0 (wordsOf n) ⌝ }
 {
@@ -160,4 +166,6 @@ pub fn write(out: &mut [u64], n: Numbers)
     put(out, 2, n.first);
     put(out, 3, n.second);
     put(out, 4, n.third);
+    put(out, 5, n.fourth);
+    put(out, 6, n.fifth);
 }

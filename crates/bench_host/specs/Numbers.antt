@@ -8,7 +8,7 @@ use Rattle.model.specs.Tree.{Limit, Open, Below}
 use Rattle.model.specs.Reading.{rootVisits}
 use Rattle.model.specs.Refusals.{Answer, result}
 use Rattle.model.specs.Refusals as Answers
-use Rattle.node.specs.Layout.{opened}
+use Rattle.node.specs.Layout.{shapeOf, opened}
 use Rattle.node.specs.Test.{nodeTest}
 use Rattle.node.specs.declared.header.StoreHeader.{StoreHeader}
 use Rattle.node.specs.declared.header.Opened as H
@@ -44,11 +44,11 @@ openNumber w = whenOpened (opened w) (λ h. h .layout .pool)
 
 abbrev pub testOf : List ℕ → ℕ → ℕ → ℕ → Limit → ℕ
 testOf w n height row b =
-    whenOpened (opened w) (λ h. pick (leb (h .layout .pool) n) refused (testNumber (nodeTest (h .layout .capacity) (h .layout .pool) w n height row b)))
+    whenOpened (opened w) (λ h. pick (leb (h .layout .pool) n) refused (testNumber (nodeTest (shapeOf (h .layout)) (h .layout .pool) w n height row b)))
 
 abbrev pub surveyOf : List ℕ → ℕ → ℕ
 surveyOf w ends =
-    whenOpened (opened w) (λ h. surveyNumber (tally (h .layout .capacity) w (rootVisits (not (eqb ends 0)) (h .layout .capacity) (h .layout .pool) w (h .root .0)) noCounts))
+    whenOpened (opened w) (λ h. surveyNumber (tally (shapeOf (h .layout)) w (rootVisits (not (eqb ends 0)) (shapeOf (h .layout)) (h .layout .pool) w (h .root .0)) noCounts))
 
 -- the end of the leaf that next gives
 abbrev pub endNumber : Answer → ℕ

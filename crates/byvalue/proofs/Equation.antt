@@ -37,6 +37,9 @@ back [] = refl
 back (r ∷ []) = refl
 back (r ∷ x ∷ b) = ap (λ (l : List ℕ). r ∷ x ∷ l) (back b)
 
+pub written-back : (b : List ℕ) → fill b 0 (wordsOf (recordsIn b)) ≡ b
+written-back b = fill-is b (wordsOf (recordsIn b)) (omega (arith, words-length (recordsIn b), record-count b .0)) ∙ back b
+
 behind : (b : List ℕ) (g : List PageEntry) → 2 * length g ≤ length b
     → (let all = wordsOf (g ++ drop (length g) (recordsIn b)) in all ++ drop (length all) b) ≡ wordsOf g ++ drop (length (wordsOf g)) b
 unfolding recordsIn wordsOf

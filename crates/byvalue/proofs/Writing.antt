@@ -5,13 +5,13 @@ use mathlib.Core.List.{List, [], _∷_, _++_}
 use native.Mathlib.Omega.{arith}
 use native.Mathlib.Numerals.{add-one}
 use lib.ListN.{length, set, take, drop, length-set, getD}
-use lib.Seq.{drop-cons, take-suc, length-take-le}
-use Rattle.model.specs.Words.{base, fill, part, row, child}
+use lib.Seq.{take-suc, length-take-le}
+use Rattle.model.specs.Words.{lent, shape, fill, part, row, child, Header}
 use Rattle.model.specs.LeafWalk.{pageEntry, records}
 use Rattle.model.specs.declared.node.PageEntry.{PageEntry}
 use Rattle.model.proofs.Fill.{length-fill, fill-snoc}
-use Rattle.model.proofs.Words.{place}
-use Rattle.node.specs.Layout.{Fits, pairWords}
+use Rattle.node.specs.Layout.{shapeOf, Fits, pairWords}
+use Rattle.node.proofs.Parts.{pair-first}
 use Rattle.listing.specs.Listing.{recordsOf}
 use Rattle.listing.specs.declared.LeafEntries.{LeafEntries}
 use Rattle.byvalue.specs.Written.{wordsOf}
@@ -22,37 +22,19 @@ length-words [] = refl
 length-words (e ∷ es) = omega (arith, length-words es)
 
 -- from entry i on
-pub pairs-are : (C : ℕ) (w : List ℕ) (n i k : ℕ) → base C n + 4 + 2 * (i + k) ≤ length w → take (2 * k) (drop (base C n + 4 + 2 * i) w) ≡ wordsOf (records C w n i k)
-unfolding wordsOf records part
-pairs-are C w n i zero h = refl
-pairs-are C w n i (suc k) h =
-    let a = base C n + 4 + 2 * i in
-    let two : 2 * suc k ≡ suc (suc (2 * k)) = omega arith in
-    let r : a ≡ base C n + (4 + 2 * i) = omega arith in
-    let x : suc a ≡ base C n + (5 + 2 * i) = omega arith in
-    let next : suc (suc a) ≡ base C n + 4 + 2 * (i + 1) = omega arith in
-    let more = pairs-are C w n (i + 1) k (omega arith) in
-    let rest = wordsOf (records C w n (i + 1) k) in
-    ap (λ (m : ℕ). take m (drop a w)) two
-    ∙ ap (take (suc (suc (2 * k)))) (drop-cons w a 0 (omega arith) ∙ ap (λ (t : List ℕ). getD w a 0 ∷ t) (drop-cons w (suc a) 0 (omega arith)))
-    ∙ ap (λ (m : ℕ). getD w a 0 ∷ getD w (suc a) 0 ∷ take (2 * k) (drop m w)) next
-    ∙ ap (λ (t : List ℕ). getD w a 0 ∷ getD w (suc a) 0 ∷ t) more
-    ∙ ap (λ (m : ℕ). getD w m 0 ∷ getD w (suc a) 0 ∷ rest) r
-    ∙ ap (λ (m : ℕ). getD w (base C n + (4 + 2 * i)) 0 ∷ getD w m 0 ∷ rest) x
+pub pairs-are : (C : ℕ) (P : ℕ) (w : List ℕ) → Header C P w → (n i k : ℕ) → n < P → i + k ≤ C → pairWords (shape lent C) w n i k ≡ wordsOf (records (shape lent C) w n i k)
+unfolding wordsOf records
+pairs-are C P w hd n i zero l h = refl
+pairs-are C P w hd n i (suc k) l h = pair-first C P w hd n i k l h ∙ ap (λ (t : List ℕ). row (shape lent C) w n i ∷ child (shape lent C) w n i ∷ t) (pairs-are C P w hd n (i + 1) k l (omega arith))
 
 -- of a leaf with entries, all that are to be copied
-pub pairs-all : (s : List ℕ) (e : LeafEntries) → Fits (e .layout) s × ((e .leaf .0 < e .layout .pool) × (e .count ≤ e .layout .capacity)) → pairWords (e .layout .capacity) s (e .leaf .0) (e .count) ≡ wordsOf (recordsOf s e)
-pairs-all s e (f, (l, k)) =
-    let C = e .layout .capacity in
-    let n = e .leaf .0 in
-    let z : base C n + 4 ≡ base C n + 4 + 2 * 0 = omega arith in
-    let last = place C (e .layout .pool) n (3 + 2 * C) l (omega arith) in
-    ap (λ (m : ℕ). take (2 * e .count) (drop m s)) z ∙ pairs-are C s n 0 (e .count) (omega (arith, last, f .long))
+pub pairs-all : (s : List ℕ) (e : LeafEntries) → Fits (e .layout) s × ((e .leaf .0 < e .layout .pool) × (e .count ≤ e .layout .capacity)) → pairWords (shapeOf (e .layout)) s (e .leaf .0) 0 (e .count) ≡ wordsOf (recordsOf s e)
+pairs-all s e (f, (l, k)) = pairs-are (e .layout .capacity) (e .layout .pool) s f (e .leaf .0) 0 (e .count) l (omega arith)
 
 -- where there are none, nothing changes
 pub no-pairs : (l s : List ℕ) (e : LeafEntries) → e .count ≡ 0 → l ≡ fill l 0 (wordsOf (recordsOf s e))
 unfolding fill wordsOf records
-no-pairs l s e z = let w : l ≡ fill l 0 (wordsOf (records (e .layout .capacity) s (e .leaf .0) 0 0)) = refl in subst (λ (k : ℕ). l ≡ fill l 0 (wordsOf (records (e .layout .capacity) s (e .leaf .0) 0 k))) (sym z) w
+no-pairs l s e z = let w : l ≡ fill l 0 (wordsOf (records (shapeOf (e .layout)) s (e .leaf .0) 0 0)) = refl in subst (λ (k : ℕ). l ≡ fill l 0 (wordsOf (records (shapeOf (e .layout)) s (e .leaf .0) 0 k))) (sym z) w
 
 pub none : (l xs : List ℕ) → l ≡ fill l 0 (take 0 xs)
 unfolding fill

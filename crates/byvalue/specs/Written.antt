@@ -3,7 +3,7 @@ use Prim.Native.Nat.{ℕ, _*_, _/_, _≤_}
 use mathlib.Core.List.{List, [], _∷_}
 use mathlib.Core.Path.{_≡_}
 use lib.ListN.{length}
-use Rattle.model.specs.Words.{fill}
+use Rattle.model.specs.Words.{lent, fill}
 use Rattle.model.specs.Refusals.{Answer, nextLeaf}
 use Rattle.model.specs.LeafWalk.{pageEntry, nextLeafOf}
 use Rattle.model.specs.declared.node.PageEntry.{PageEntry}
@@ -19,9 +19,9 @@ wordsOf (e ∷ es) = e .«row_id» .0 ∷ e .«page_id» .0 ∷ wordsOf es
 -- gives out are written as words, and the other words stay.
 pub record WordSteps (w : List ℕ) (c : RowPageIndexMemCursor) (before after : List ℕ) (r : WordStep) : Type 0 where
   pub given : List PageEntry
-  pub answer : (l : List PageEntry) → length l ≡ length before / 2 → nextLeaf (r .answer) ≡ nextLeafOf w c l .answer
-  pub cursor : (l : List PageEntry) → length l ≡ length before / 2 → r .cursor ≡ nextLeafOf w c l .cursor
-  pub list : (l : List PageEntry) → length l ≡ length before / 2 → nextLeafOf w c l .list ≡ fill l 0 given
+  pub answer : (l : List PageEntry) → length l ≡ length before / 2 → nextLeaf (r .answer) ≡ nextLeafOf lent w c l .answer
+  pub cursor : (l : List PageEntry) → length l ≡ length before / 2 → r .cursor ≡ nextLeafOf lent w c l .cursor
+  pub list : (l : List PageEntry) → length l ≡ length before / 2 → nextLeafOf lent w c l .list ≡ fill l 0 given
   pub few : length given ≤ length before / 2
   pub words : after ≡ fill before 0 (wordsOf given)
 
@@ -40,5 +40,5 @@ pub record WordOutcome : Type 0 where
 -- next on these records, and its list written back
 abbrev pub nextWordsOf : List ℕ → RowPageIndexMemCursor → List ℕ → WordOutcome
 nextWordsOf w c before =
-    let o = nextLeafOf w c (recordsIn before) in
+    let o = nextLeafOf lent w c (recordsIn before) in
     record { answer = o .answer; cursor = o .cursor; words = fill before 0 (wordsOf (o .list)) }

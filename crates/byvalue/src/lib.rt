@@ -5,6 +5,7 @@ ghost use Prim.Native.Nat.{_*_, _≤_};
 ghost use lib.ListN.{length};
 ghost use Rattle.model.specs.Words.{fill};
 ghost use Rattle.model.specs.LeafWalk as W;
+ghost use Rattle.model.specs.Refusals.{nextLeaf};
 ghost use Rattle.listing.specs.Listing.{Readable, recordsOf};
 ghost use Rattle.byvalue.specs.Written.{WordSteps, wordsOf};
 use listing::LeafEntries;
@@ -25,6 +26,17 @@ pub fn seek_value(c: RowPageIndexMemCursor, row: RowID) -> RowPageIndexMemCursor
     let mut d = c;
     cursor::seek(&mut d, row);
     d
+}
+
+// Whether a step gave a leaf.
+pub fn gives_leaf(a: NextLeaf) -> bool
+    ensures { λ r. ⌜ r ≡ W.givesLeaf (nextLeaf a) ⌝ }
+{
+    match a {
+        NextLeaf::Found(_) => true,
+        NextLeaf::Done => false,
+        NextLeaf::Refused(_) => false,
+    }
 }
 
 // Words go to the front of a list, and the rest of it stays.

@@ -9,20 +9,20 @@ use native.Mathlib.Nat.{le-mul-of-pos-right}
 use lib.ListN.{length}
 use lib.Dec.{T, leb, ltb, eqb}
 use borrow.Author.Tests.{ltb-true, ltb-false, leb-false, lt-ltb, le-ltb, eqb-true, eqb-false}
-use Rattle.model.specs.Words.{pick, capacity, pool, root, part, height, count, start, end, row, child, rowLimit, maxHeight}
+use Rattle.model.specs.Words.{storeShape, lent, Shape, pick, capacity, pool, root, part, height, count, start, end, row, child, rowLimit, maxHeight}
 use Rattle.model.specs.Tree.{Limit, Open, Below, nodeAt, meets, endSound, sound, emptyRoot, Under}
 use Rattle.model.specs.Reading.{Reached, unsound, leaf, nextRow, checked, descend, rootLeaf, lastNotAbove, toRow}
 use Rattle.model.specs.Refusals.{Answer, result, refused, headerOk}
-use Rattle.model.specs.LeafWalk.{cursorAt, isLast, given, nextLeafOf}
+use Rattle.model.specs.LeafWalk.{cursorAt, isLast, given, nextLeafOf, givesLeaf}
 use Rattle.model.specs.declared.node.PageEntry.{PageEntry}
 use Rattle.model.specs.declared.cursor.RowPageIndexMemCursor.{RowPageIndexMemCursor}
 use Rattle.model.proofs.Sound.{sound-ends, meets-is}
-use Rattle.formed.proofs.Opens.{header-of}
+use Rattle.model.proofs.Header.{header-of}
 use Rattle.model.proofs.Tests.{by-test, holds}
 use Rattle.text.specs.Lines.{Puts}
 use Rattle.lines.specs.Answers.{leafLines}
 use Rattle.calls.specs.Calls.{lentRecords, walkLines}
-use Rattle.calls.specs.Steps.{givesLeaf, Walks}
+use Rattle.calls.specs.Steps.{Walks}
 use Rattle.calls.specs.declared.WalkStep.{WalkStep}
 use Rattle.calls.proofs.Walking.{leaf-last, walks-on, walks-out}
 
@@ -30,11 +30,11 @@ differ : {A : Type 0} → false ≡ true → A
 differ e = let z : _≡_ {A = ℕ} 0 1 = cc in absurd (omega arith)
 
 -- how many of the first k nodes end above row q
-unfoldable pub endAbove : ℕ → List ℕ → ℕ → ℕ → ℕ
+unfoldable pub endAbove : Shape → List ℕ → ℕ → ℕ → ℕ
 endAbove C w q zero = 0
 endAbove C w q (suc k) = pick (ltb q (end C w k)) 1 0 + endAbove C w q k
 
-module _ (C : ℕ) (w : List ℕ) where
+module _ (C : Shape) (w : List ℕ) where
   pub above-few : (q k : ℕ) → endAbove C w q k ≤ k
   unfolding endAbove
   above-few q zero = omega arith
@@ -68,12 +68,12 @@ module _ (C : ℕ) (w : List ℕ) where
 
 -- the steps that a cursor has left, at most: one where the store is refused
 abbrev pub left : List ℕ → RowPageIndexMemCursor → ℕ
-left w c = pick (headerOk w) (pick (c .done) 1 (2 + endAbove (capacity w) w (c .«row_id» .0) (pool w))) 1
+left w c = pick (headerOk w) (pick (c .done) 1 (2 + endAbove (storeShape lent w) w (c .«row_id» .0) (pool w))) 1
 
 pub left-some : (w : List ℕ) (c : RowPageIndexMemCursor) → 1 ≤ left w c
 left-some w c = by-test (headerOk w) (λ h. by-test (c .done) (λ t. rw (h, t) (omega arith)) (λ t. rw (h, t) (omega arith))) (λ h. rw h (omega arith))
 
-module _ (C : ℕ) (w : List ℕ) (q : ℕ) where
+module _ (C : Shape) (w : List ℕ) (q : ℕ) where
   -- the row after the place of q is above q
   place-past : (n k i : ℕ) → lastNotAbove C w q n k ≡ i → i + 1 < k → q < row C w n (i + 1)
   unfolding lastNotAbove
@@ -142,7 +142,7 @@ module _ (C : ℕ) (w : List ℕ) (q : ℕ) where
       let y = f n e refl in omega (arith, above-falls C w q (end C w n) n P (y .inside) (omega (arith, y .above, y .ends)) refl)
 
 -- a step that gives a leaf leaves fewer
-pub falls : (w : List ℕ) (c : RowPageIndexMemCursor) (l : List PageEntry) → givesLeaf (nextLeafOf w c l .answer) ≡ true → left w (nextLeafOf w c l .cursor) < left w c
+pub falls : (w : List ℕ) (c : RowPageIndexMemCursor) (l : List PageEntry) → givesLeaf (nextLeafOf lent w c l .answer) ≡ true → left w (nextLeafOf lent w c l .cursor) < left w c
 unfolding nextLeafOf givesLeaf
 falls w c l g =
     let q = c .«row_id» .0 in
@@ -153,15 +153,15 @@ falls w c l g =
     (λ d. differ (rw (a, b, d) at g))
     (λ d. by-test (c .done)
     (λ e. differ (rw (a, b, d, e) at g))
-    (λ e. rw (a, b, d, e) (given-left (capacity w) w q (pool w) false l (rootLeaf (toRow (capacity w) w q) (capacity w) (pool w) w (root w))
-    (λ n x z. root-rises (capacity w) w q (pool w) n x (root w) z) (rw (a, b, d, e) at g))))))
+    (λ e. rw (a, b, d, e) (given-left (storeShape lent w) w q (pool w) false l (rootLeaf (toRow (storeShape lent w) w q) (storeShape lent w) (pool w) w (root w))
+    (λ n x z. root-rises (storeShape lent w) w q (pool w) n x (root w) z) (rw (a, b, d, e) at g))))))
     (λ a. differ (rw a at g))
 
 -- no store has as many nodes as words
 pub left-bound : (w : List ℕ) (c : RowPageIndexMemCursor) → left w c ≤ length w + 1
 left-bound w c =
     by-test (headerOk w)
-    (λ h. let few = above-few (capacity w) w (c .«row_id» .0) (pool w) in
+    (λ h. let few = above-few (storeShape lent w) w (c .«row_id» .0) (pool w) in
     let fits = header-of w h .fits in
     let many = le-mul-of-pos-right {m = 4 + 2 * capacity w} (pool w) (omega arith) in
     by-test (c .done) (λ t. rw (h, t) (omega arith)) (λ t. rw (h, t) (omega arith)))
@@ -173,14 +173,14 @@ unfolding walkLines
 enough w zero k c h l = absurd (omega (arith, left-some w c))
 enough w (suc j) zero c h l = absurd (omega (arith, left-some w c))
 enough w (suc j) (suc k) c h l =
-    let s = nextLeafOf w c lentRecords in
+    let s = nextLeafOf lent w c lentRecords in
     by-test (givesLeaf (s .answer))
     (λ t. let f = falls w c lentRecords t in ap (leafLines (s .answer)) (enough w j k (s .cursor) (omega arith) (omega arith)))
     (λ t. leaf-last (s .answer) (walkLines w j (s .cursor)) t ∙ sym (leaf-last (s .answer) (walkLines w k (s .cursor)) t))
 
 -- A turn of a walk ----------------------------------------------------------------------------------------
 
-module _ (s : List ℕ) (c : RowPageIndexMemCursor) {out out₁ : List ℕ} {place : ℕ} {t : WalkStep} (w : Walks (nextLeafOf s c lentRecords) out place out₁ t) where
+module _ (s : List ℕ) (c : RowPageIndexMemCursor) {out out₁ : List ℕ} {place : ℕ} {t : WalkStep} (w : Walks (nextLeafOf lent s c lentRecords) out place out₁ t) where
   one-of : left s c ≡ suc (left s c - 1)
   one-of = omega (arith, left-some s c)
 

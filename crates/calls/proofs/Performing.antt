@@ -7,7 +7,7 @@ use native.Mathlib.Omega.{arith}
 use lib.ListN.{length, take, drop}
 use lib.Dec.{leb, leb→le}
 use borrow.Author.Tests.{le-leb, lt-leb}
-use Rattle.model.specs.Words.{pick, capacityOk, poolOk, storeLength}
+use Rattle.model.specs.Words.{lent, pick, inRange, storeLength}
 use Rattle.model.specs.Refusals.{Answer, result, refused, Outcome}
 use Rattle.model.specs.Create.{create}
 use Rattle.model.specs.Lookup.{tryFindRow}
@@ -27,60 +27,46 @@ use Rattle.calls.specs.declared.Progress.{Progress}
 -- The length that a create gets ---------------------------------------------------------------------------
 
 module _ (all C P : ℕ) where
-  pub low-capacity : C < 2 → all ≡ createLength all C P
+  pub out-of-range : inRange C P ≡ false → all ≡ createLength all C P
   unfolding createLength
-  low-capacity h = rw (lt-leb 2 C h)
+  out-of-range e = rw e
 
-  pub high-capacity : 2 ≤ C → 4094 < C → all ≡ createLength all C P
+  pub too-many : inRange C P ≡ true → all < storeLength C P → all ≡ createLength all C P
   unfolding createLength
-  high-capacity h g = rw (le-leb 2 C h, lt-leb C 4094 g)
+  too-many e h = rw (e, lt-leb (storeLength C P) all h)
 
-  module _ (c₁ : 2 ≤ C) (c₂ : C ≤ 4094) where
-    pub low-pool : P < 1 → all ≡ createLength all C P
-    unfolding createLength
-    low-pool h = rw (le-leb 2 C c₁, le-leb C 4094 c₂, lt-leb 1 P h)
-
-    pub high-pool : 1 ≤ P → 65535 < P → all ≡ createLength all C P
-    unfolding createLength
-    high-pool h g = rw (le-leb 2 C c₁, le-leb C 4094 c₂, le-leb 1 P h, lt-leb P 65535 g)
-
-    module _ (p₁ : 1 ≤ P) (p₂ : P ≤ 65535) where
-      pub too-many : all < storeLength C P → all ≡ createLength all C P
-      unfolding createLength
-      too-many h = rw (le-leb 2 C c₁, le-leb C 4094 c₂, le-leb 1 P p₁, le-leb P 65535 p₂, lt-leb (storeLength C P) all h)
-
-      pub enough : storeLength C P ≤ all → storeLength C P ≡ createLength all C P
-      unfolding createLength
-      enough h = rw (le-leb 2 C c₁, le-leb C 4094 c₂, le-leb 1 P p₁, le-leb P 65535 p₂, le-leb (storeLength C P) all h)
+  pub enough : inRange C P ≡ true → storeLength C P ≤ all → storeLength C P ≡ createLength all C P
+  unfolding createLength
+  enough e h = rw (e, le-leb (storeLength C P) all h)
 
   pub within : createLength all C P ≤ all
   unfolding createLength
   within =
-      by-test (capacityOk C && poolOk P && leb (storeLength C P) all)
-      (λ t. rw t (leb→le (storeLength C P) all (and-r (capacityOk C && poolOk P) (leb (storeLength C P) all) (holds _ t))))
+      by-test (inRange C P && leb (storeLength C P) all)
+      (λ t. rw t (leb→le (storeLength C P) all (and-r (inRange C P) (leb (storeLength C P) all) (holds _ t))))
       (λ t. rw t (omega arith))
 
 -- Calls -----------------------------------------------------------------------------------------------------
 
 module _ (w out : List ℕ) (u at : ℕ) (a : Answer) (v out₁ : List ℕ) (place : ℕ) where
-  pub creates : (C P s len used₁ : ℕ) → len ≡ createLength (length w) C P → a ≡ create (take len w) C P s .answer → v ≡ create (take len w) C P s .words → used₁ ≡ ifAccepted a len u → Puts out at (answerLine createName a) out₁ place → Does (perform (memory w u) (Create C P s)) out at (v ++ drop len w) out₁ (record { used = used₁; at = place; goes = true })
+  pub creates : (C P s len used₁ : ℕ) → len ≡ createLength (length w) C P → a ≡ create lent (take len w) C P s .answer → v ≡ create lent (take len w) C P s .words → used₁ ≡ ifAccepted a len u → Puts out at (answerLine createName a) out₁ place → Does (perform (memory w u) (Create C P s)) out at (v ++ drop len w) out₁ (record { used = used₁; at = place; goes = true })
   unfolding perform
   creates C P s len used₁ is e f g p =
       record { words = rw (f, is); used = rw (g, e, is); goes = refl; puts = rw (e, is) at p }
 
-  pub appends : (k x : ℕ) → a ≡ insertRowPage (take u w) k x .answer → v ≡ insertRowPage (take u w) k x .words → Puts out at (answerLine appendName a) out₁ place → Does (perform (memory w u) (Append k x)) out at (v ++ drop u w) out₁ (record { used = u; at = place; goes = true })
+  pub appends : (k x : ℕ) → a ≡ insertRowPage lent (take u w) k x .answer → v ≡ insertRowPage lent (take u w) k x .words → Puts out at (answerLine appendName a) out₁ place → Does (perform (memory w u) (Append k x)) out at (v ++ drop u w) out₁ (record { used = u; at = place; goes = true })
   unfolding perform
   appends k x e f p = record { words = rw f; used = refl; goes = refl; puts = rw e at p }
 
-  pub finds : (q : ℕ) → a ≡ tryFindRow (take u w) q → Puts out at (findLine a) out₁ place → Does (perform (memory w u) (Find q)) out at w out₁ (record { used = u; at = place; goes = true })
+  pub finds : (q : ℕ) → a ≡ tryFindRow lent (take u w) q → Puts out at (findLine a) out₁ place → Does (perform (memory w u) (Find q)) out at w out₁ (record { used = u; at = place; goes = true })
   unfolding perform
   finds q e p = record { words = refl; used = refl; goes = refl; puts = rw e at p }
 
-  pub prunes : (s e₀ : ℕ) (ids : List ℕ) → a ≡ pruneCheckpointPrefix (take u w) s e₀ ids .answer → v ≡ pruneCheckpointPrefix (take u w) s e₀ ids .words → Puts out at (answerLine pruneName a) out₁ place → Does (perform (memory w u) (Prune s e₀ ids)) out at (v ++ drop u w) out₁ (record { used = u; at = place; goes = true })
+  pub prunes : (s e₀ : ℕ) (ids : List ℕ) → a ≡ pruneCheckpointPrefix lent (take u w) s e₀ ids .answer → v ≡ pruneCheckpointPrefix lent (take u w) s e₀ ids .words → Puts out at (answerLine pruneName a) out₁ place → Does (perform (memory w u) (Prune s e₀ ids)) out at (v ++ drop u w) out₁ (record { used = u; at = place; goes = true })
   unfolding perform
   prunes s e₀ ids e f p = record { words = rw f; used = refl; goes = refl; puts = rw e at p }
 
-  pub releases : (q : ℕ) → a ≡ destroy (take u w) q lentPages .answer → v ≡ destroy (take u w) q lentPages .words → Puts out at (answerLine releaseName a) out₁ place → Does (perform (memory w u) (Release q)) out at (v ++ drop u w) out₁ (record { used = u; at = place; goes = true })
+  pub releases : (q : ℕ) → a ≡ destroy lent (take u w) q lentPages .answer → v ≡ destroy lent (take u w) q lentPages .words → Puts out at (answerLine releaseName a) out₁ place → Does (perform (memory w u) (Release q)) out at (v ++ drop u w) out₁ (record { used = u; at = place; goes = true })
   unfolding perform
   releases q e f p = record { words = rw f; used = refl; goes = refl; puts = rw e at p }
 
@@ -101,7 +87,7 @@ accepted-fits (refused d e) n m k h l = l
 
 pub used-fits : (w : List ℕ) (u : ℕ) (a : Call) → u ≤ length w → perform (memory w u) a .memory .used ≤ length w
 unfolding perform
-used-fits w u (Create C P s) h = let n = createLength (length w) C P in accepted-fits (create (take n w) C P s .answer) n u (length w) (within (length w) C P) h
+used-fits w u (Create C P s) h = let n = createLength (length w) C P in accepted-fits (create lent (take n w) C P s .answer) n u (length w) (within (length w) C P) h
 used-fits w u (Append k x) h = h
 used-fits w u (Find q) h = h
 used-fits w u (Prune s e ids) h = h

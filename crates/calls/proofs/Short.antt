@@ -7,7 +7,7 @@ use native.Mathlib.Omega.{arith}
 use native.Mathlib.Nat.{mul-le-mul-left}
 use lib.ListN.{length, take, length-append, length-take}
 use lib.Dec.{leb, ltb, eqb}
-use Rattle.model.specs.Words.{capacity, pool, root, freeHead, freeCount, height, count, start, end, storeLength, capacityOk, poolOk, rowLimit, maxHeight}
+use Rattle.model.specs.Words.{storeShape, lent, Shape, capacity, pool, root, freeHead, freeCount, height, count, start, end, storeLength, capacityOk, poolOk, rowLimit, maxHeight}
 use Rattle.model.specs.Tree.{Level, emptyRoot, rootSound, level}
 use Rattle.model.specs.Reading.{Fault, clear, at, unlessBad, firstBad, rootVisits, Reached, unsound, leaf, rootLeaf, toRow, toRight, rootEntries, rootNodes}
 use Rattle.model.specs.Refusals.{Answer, result, refused, headerOk}
@@ -17,18 +17,17 @@ use Rattle.model.specs.Lookup.{foundIn, findInTree, tryFindRow}
 use Rattle.model.specs.Cut.{cut, wentPairs, went}
 use Rattle.model.specs.Prune.{Scan, stopped, on, Copies, copies, rootCopies, pruneWith, pruneScanned, pruneRoot, pruneCheckpointPrefix}
 use Rattle.model.specs.Prune as Pr
-use Rattle.model.specs.LeafWalk.{seek, given, nextLeafOf}
+use Rattle.model.specs.LeafWalk.{seek, given, nextLeafOf, givesLeaf}
 use Rattle.model.specs.Release.{Released, firstLow, destroy}
 use Rattle.model.specs.declared.node.PageEntry.{PageEntry}
 use Rattle.model.specs.declared.cursor.RowPageIndexMemCursor.{RowPageIndexMemCursor}
 use Rattle.model.proofs.Tests.{by-test}
-use Rattle.formed.proofs.Opens.{header-of}
+use Rattle.model.proofs.Header.{header-of}
 use Rattle.text.specs.Lines.{digitsOf, decimal, numbers, line, digit}
 use Rattle.records.specs.Records.{Call, Create, Append, Find, Prune, Walk, Release, Bad}
 use Rattle.lines.specs.Names.{createName, appendName, pageName, noneName, pruneName, leafName, endName, releaseName, noName, badRecordName}
 use Rattle.lines.specs.Answers.{answerLine, findLine, leafLines}
 use Rattle.calls.specs.Calls.{lentRecords, lentPages, walkLines, Memory, createLength, perform}
-use Rattle.calls.specs.Steps.{givesLeaf}
 use Rattle.calls.proofs.Walking.{leaf-last}
 use Rattle.calls.proofs.Bound.{left, left-some, above-few, falls}
 
@@ -60,14 +59,14 @@ values (refused number detail) = 2
 abbrev few : Answer → Type 0
 few a = values a ≤ 3
 
-create-few : (w : List ℕ) (C P s : ℕ) → few (create w C P s .answer)
+create-few : (w : List ℕ) (C P s : ℕ) → few (create lent w C P s .answer)
 unfolding create
 create-few w C P s =
     by-test (capacityOk C && poolOk P && eqb (length w) (storeLength C P))
     (λ t. by-test (leb s rowLimit) (λ u. rw (t, u) (omega arith)) (λ u. rw (t, u) (omega arith)))
     (λ t. rw t (omega arith))
 
-module _ (C P : ℕ) (w : List ℕ) (n : ℕ) where
+module _ (C : Shape) (P : ℕ) (w : List ℕ) (n : ℕ) where
   append-to-few : (k x : ℕ) (r : Reached) → few (appendTo C P w n k x r .answer)
   unfolding appendTo
   append-to-few k x (unsound m) = omega arith
@@ -114,26 +113,26 @@ module _ (C P : ℕ) (w : List ℕ) (n : ℕ) where
   unfolding pruneRoot
   root-few h e ids t = scanned-few h e t _
 
-append-few : (w : List ℕ) (k x : ℕ) → few (insertRowPage w k x .answer)
+append-few : (w : List ℕ) (k x : ℕ) → few (insertRowPage lent w k x .answer)
 unfolding insertRowPage
 append-few w k x =
     by-test (headerOk w)
     (λ t. by-test (eqb (root w) (pool w))
     (λ u. rw (t, u) (omega arith))
-    (λ u. rw (t, u) (append-to-few (capacity w) (pool w) w (root w) k x (rootLeaf (toRight (capacity w) w) (capacity w) (pool w) w (root w)))))
+    (λ u. rw (t, u) (append-to-few (storeShape lent w) (pool w) w (root w) k x (rootLeaf (toRight (storeShape lent w) w) (storeShape lent w) (pool w) w (root w)))))
     (λ t. rw t (omega arith))
 
-find-few : (w : List ℕ) (q : ℕ) → few (tryFindRow w q)
+find-few : (w : List ℕ) (q : ℕ) → few (tryFindRow lent w q)
 unfolding tryFindRow
 find-few w q =
     by-test (headerOk w)
-    (λ t. by-test (eqb (root w) (pool w)) (λ u. rw (t, u) (omega arith)) (λ u. rw (t, u) (tree-few (capacity w) (pool w) w (root w) q)))
+    (λ t. by-test (eqb (root w) (pool w)) (λ u. rw (t, u) (omega arith)) (λ u. rw (t, u) (tree-few (storeShape lent w) (pool w) w (root w) q)))
     (λ t. rw t (omega arith))
 
-prune-few : (w : List ℕ) (s e : ℕ) (ids : List ℕ) → few (pruneCheckpointPrefix w s e ids .answer)
+prune-few : (w : List ℕ) (s e : ℕ) (ids : List ℕ) → few (pruneCheckpointPrefix lent w s e ids .answer)
 unfolding pruneCheckpointPrefix
 prune-few w s e ids =
-    let C = capacity w in
+    let C = storeShape lent w in
     let n = root w in
     let h = height C w n in
     by-test (headerOk w)
@@ -157,10 +156,10 @@ unless : (f : Fault) (g : ℕ → Released) (a : Released) → ((m : ℕ) → fe
 unless clear g a p q = q refl
 unless (at m) g a p q = p m
 
-release-few : (w : List ℕ) (v : ℕ) (l : List ℕ) → few (destroy w v l .answer)
+release-few : (w : List ℕ) (v : ℕ) (l : List ℕ) → few (destroy lent w v l .answer)
 unfolding destroy
 release-few w v l =
-    let C = capacity w in
+    let C = storeShape lent w in
     let es = rootEntries C w (root w) in
     let ns = rootNodes C w (root w) in
     by-test (headerOk w)
@@ -174,12 +173,12 @@ release-few w v l =
     (λ t₁. rw t₁ (omega arith)))))))
     (λ t. rw t (omega arith))
 
-given-few : (C : ℕ) (w : List ℕ) (c : RowPageIndexMemCursor) (l : List PageEntry) (r : Reached) → few (given C w c l r .answer)
+given-few : (C : Shape) (w : List ℕ) (c : RowPageIndexMemCursor) (l : List PageEntry) (r : Reached) → few (given C w c l r .answer)
 unfolding given
 given-few C w c l (unsound m) = omega arith
 given-few C w c l (leaf n b) = omega arith
 
-next-few : (w : List ℕ) (c : RowPageIndexMemCursor) (l : List PageEntry) → few (nextLeafOf w c l .answer)
+next-few : (w : List ℕ) (c : RowPageIndexMemCursor) (l : List PageEntry) → few (nextLeafOf lent w c l .answer)
 unfolding nextLeafOf
 next-few w c l =
     by-test (headerOk w)
@@ -189,7 +188,7 @@ next-few w c l =
     (λ t₃. rw (t₁, t₂, t₃) (omega arith))
     (λ t₃. by-test (c .done)
     (λ t₄. rw (t₁, t₂, t₃, t₄) (omega arith))
-    (λ t₄. rw (t₁, t₂, t₃, t₄) (given-few (capacity w) w _ l (rootLeaf (toRow (capacity w) w (c .«row_id» .0)) (capacity w) (pool w) w (root w)))))))
+    (λ t₄. rw (t₁, t₂, t₃, t₄) (given-few (storeShape lent w) w _ l (rootLeaf (toRow (storeShape lent w) w (c .«row_id» .0)) (storeShape lent w) (pool w) w (root w)))))))
     (λ t₁. rw t₁ (omega arith))
 
 -- the longest name has seven letters
@@ -217,7 +216,7 @@ walk-lines : (w : List ℕ) (k : ℕ) (c : RowPageIndexMemCursor) → length (wa
 unfolding walkLines
 walk-lines w zero c = omega arith
 walk-lines w (suc k) c =
-    let s = nextLeafOf w c lentRecords in
+    let s = nextLeafOf lent w c lentRecords in
     let f = next-few w c lentRecords in
     by-test (givesLeaf (s .answer))
     (λ t. omega (arith, leaf-short (s .answer) (walkLines w k (s .cursor)) f, walk-lines w k (s .cursor), falls w c lentRecords t))
@@ -232,7 +231,7 @@ pool-small w h t =
 left-small : (w : List ℕ) (c : RowPageIndexMemCursor) → length w ≤ 4096 → left w c ≤ 513
 left-small w c h =
     by-test (headerOk w)
-    (λ t. let few = above-few (capacity w) w (c .«row_id» .0) (pool w) in
+    (λ t. let few = above-few (storeShape lent w) w (c .«row_id» .0) (pool w) in
     let small = pool-small w h t in
     by-test (c .done) (λ u. rw (t, u) (omega arith)) (λ u. rw (t, u) (omega arith)))
     (λ t. rw t (omega arith))

@@ -4,7 +4,7 @@ use mathlib.Core.List.{List, [], _∷_, _++_}
 use mathlib.Core.Bool.{Bool, true, false, _&&_}
 use lib.ListN.{length, take, drop, replicate}
 use lib.Dec.{leb}
-use Rattle.model.specs.Words.{pick, capacityOk, poolOk, storeLength}
+use Rattle.model.specs.Words.{lent, pick, inRange, storeLength}
 use Rattle.model.specs.Refusals.{Answer, result, refused, Outcome}
 use Rattle.model.specs.Create.{create}
 use Rattle.model.specs.Lookup.{tryFindRow}
@@ -34,7 +34,7 @@ lentPages = replicate 2048 0
 unfoldable pub walkLines : List ℕ → ℕ → RowPageIndexMemCursor → List ℕ
 walkLines w zero c = []
 walkLines w (suc k) c =
-    let s = nextLeafOf w c lentRecords in leafLines (s .answer) (walkLines w k (s .cursor))
+    let s = nextLeafOf lent w c lentRecords in leafLines (s .answer) (walkLines w k (s .cursor))
 
 -- Memory: "It has 4,096 words, zero at first" --------------------------------------------------------------
 
@@ -49,7 +49,7 @@ zeros n = record { words = replicate n 0; used = n }
 
 -- "a create gets the length it computes, or all of them where that is more or C or P is out of range"
 unfoldable pub createLength : ℕ → ℕ → ℕ → ℕ
-createLength all C P = pick (capacityOk C && poolOk P && leb (storeLength C P) all) (storeLength C P) all
+createLength all C P = pick (inRange C P && leb (storeLength C P) all) (storeLength C P) all
 
 unfoldable pub ifAccepted : Answer → ℕ → ℕ → ℕ
 ifAccepted (result vs) n m = n
@@ -79,21 +79,21 @@ reading m lines = record { lines = lines; memory = m; goes = true }
 unfoldable pub perform : Memory → Call → Performed
 perform m (Create C P s) =
     let n = createLength (length (m .words)) C P in
-    let o = create (take n (m .words)) C P s in
+    let o = create lent (take n (m .words)) C P s in
     record {
       lines = answerLine createName (o .answer);
       memory = record { words = overlaid n (o .words) (m .words); used = ifAccepted (o .answer) n (m .used) };
       goes = true;
     }
 perform m (Append k x) =
-    let o = insertRowPage (take (m .used) (m .words)) k x in leaving m (answerLine appendName (o .answer)) (o .words)
-perform m (Find q) = reading m (findLine (tryFindRow (take (m .used) (m .words)) q))
+    let o = insertRowPage lent (take (m .used) (m .words)) k x in leaving m (answerLine appendName (o .answer)) (o .words)
+perform m (Find q) = reading m (findLine (tryFindRow lent (take (m .used) (m .words)) q))
 perform m (Prune s e ids) =
-    let o = pruneCheckpointPrefix (take (m .used) (m .words)) s e ids in
+    let o = pruneCheckpointPrefix lent (take (m .used) (m .words)) s e ids in
     leaving m (answerLine pruneName (o .answer)) (o .words)
 perform m (Walk q) = let w = take (m .used) (m .words) in reading m (walkLines w (length w + 1) (seek q))
 perform m (Release v) =
-    let o = destroy (take (m .used) (m .words)) v lentPages in
+    let o = destroy lent (take (m .used) (m .words)) v lentPages in
     leaving m (answerLine releaseName (o .answer)) (o .words)
 -- "prints `bad record` and ends without the `free` line"
 perform m Bad = record { lines = line badRecordName []; memory = m; goes = false }

@@ -1,10 +1,8 @@
 -- What the functions of src/ do, in the words of specs/Calls.
 use Prim.Native.Nat.{ℕ, _+_}
-use mathlib.Core.List.{List, [], _∷_}
+use mathlib.Core.List.{List, []}
 use mathlib.Core.Path.{_≡_}
-use mathlib.Core.Bool.{Bool, true, false}
-use Rattle.model.specs.Refusals.{Answer, result, refused}
-use Rattle.model.specs.LeafWalk.{Stepped}
+use Rattle.model.specs.LeafWalk.{Stepped, givesLeaf}
 use Rattle.text.specs.Lines.{Puts}
 use Rattle.lines.specs.Answers.{leafLines}
 use Rattle.calls.specs.Calls.{Memory, Performed}
@@ -22,13 +20,7 @@ pub record Does (p : Performed) (out : List ℕ) (at : ℕ) (w₁ out₁ : List 
   pub goes : r .goes ≡ p .goes
   pub puts : Puts out at (p .lines) out₁ (r .at)
 
--- a step of a walk gives a leaf, and the walk goes on
-unfoldable pub givesLeaf : Answer → Bool
-givesLeaf (result []) = false
-givesLeaf (result (x ∷ xs)) = true
-givesLeaf (refused number detail) = false
-
--- what a step of a walk does
+-- what a step of a walk does: it goes on where a leaf was given
 pub record Walks (p : Stepped) (out : List ℕ) (at : ℕ) (out₁ : List ℕ) (r : WalkStep) : Type 0 where
   pub cursor : r .cursor ≡ p .cursor
   pub goes : r .goes ≡ givesLeaf (p .answer)

@@ -5,18 +5,19 @@ ghost use mathlib.Core.Bool.{false};
 ghost use mathlib.Core.List.{[]};
 ghost use Prim.Native.Nat.{_+_, _≤_};
 ghost use lib.ListN.{length};
+ghost use Rattle.model.specs.Words.{lent};
 ghost use Rattle.model.specs.LeafWalk as W;
-ghost use Rattle.model.specs.Refusals.{created, nextLeaf};
+ghost use Rattle.model.specs.Refusals.{created};
 ghost use Rattle.text.specs.Lines.{Puts, line};
 ghost use Rattle.lines.specs.Names.{badRecordName};
 ghost use Rattle.records.specs.Records as R;
 ghost use Rattle.calls.specs.Calls.{createLength, ifAccepted, lentRecords, perform, walkLines};
-ghost use Rattle.calls.specs.Steps.{Does, Walks, givesLeaf, memory};
+ghost use Rattle.calls.specs.Steps.{Does, Walks, memory};
 use model::answer::Created;
-use model::answer::NextLeaf;
 use model::cursor::RowPageIndexMemCursor;
 use model::id::PageID;
 use model::id::RowID;
+use node::layout::Layout;
 
 // After a record: the words in use, the place after its lines, and whether the script goes on.
 pub struct Progress {
@@ -29,19 +30,15 @@ pub struct Progress {
 fn create_length(all: usize, capacity: u64, nodes: u64) -> usize
     ensures { λ r. ⌜ r ≡ createLength all capacity nodes ⌝ }
 {
-    if capacity < 2 {
+    let l = Layout {
+        capacity,
+        pool: nodes,
+    };
+    let good = l.in_range();
+    if !good {
         return all;
     }
-    if 4094 < capacity {
-        return all;
-    }
-    if nodes < 1 {
-        return all;
-    }
-    if 65535 < nodes {
-        return all;
-    }
-    let len = (8 + nodes * (4 + 2 * capacity)) as usize;
+    let len = l.store_length() as usize;
     if all < len {
         return all;
     }
@@ -126,16 +123,6 @@ pub fn release_step(s: &mut [u64], used: usize, pivot: u64, out: &mut [u8], at: 
     }
 }
 
-fn is_leaf(a: NextLeaf) -> bool
-    ensures { λ r. ⌜ r ≡ givesLeaf (nextLeaf a) ⌝ }
-{
-    match a {
-        NextLeaf::Found(_) => true,
-        NextLeaf::Done => false,
-        NextLeaf::Refused(_) => false,
-    }
-}
-
 // After one step of a walk: the cursor, the place after its line, and whether another follows.
 pub struct WalkStep {
     pub cursor: RowPageIndexMemCursor,
@@ -151,7 +138,7 @@ fn walk_once(
     at: usize,
 ) -> WalkStep
     requires { ⌜ length (now list) ≡ 4096 ⌝ }
-    ensures { λ r. ⌜ Walks (W.nextLeafOf (now (s .entry)) cursor lentRecords) (now (out .entry)) at (now (out .exit)) r ⌝ }
+    ensures { λ r. ⌜ Walks (W.nextLeafOf lent (now (s .entry)) cursor lentRecords) (now (out .entry)) at (now (out .exit)) r ⌝ }
 {
     let step = byvalue::next_words(s, cursor, list);
     let answer = step.answer;
@@ -160,7 +147,7 @@ fn walk_once(
     WalkStep {
         cursor: next,
         at: place,
-        goes: is_leaf(answer),
+        goes: byvalue::gives_leaf(answer),
     }
 }
 

@@ -3,7 +3,7 @@ use Prim.Native.Nat.{ℕ, zero, suc, _+_, _*_, _-_}
 use mathlib.Core.List.{List, [], _∷_, _++_, map}
 use mathlib.Core.Bool.{Bool, true, false}
 use lib.ListN.{length, set, replicate}
-use Rattle.model.specs.Words.{pick, word, capacity, pool, root, storeLength, nodeSize, part, put, height, count, start, end}
+use Rattle.model.specs.Words.{storeShape, lent, pick, word, pool, root, storeLength, nodeSize, part, put, height, count, start, end}
 use Rattle.model.specs.Tree.{Node, Level, next, last, overPairs, Limit, Open, Below, level}
 use Rattle.model.specs.Reading.{rootTree}
 use Rattle.model.specs.Refusals.{Answer, result, refused, Outcome}
@@ -35,7 +35,7 @@ pub data Call : Type 0 where
 -- the leaves from a cursor on: the answers up to the first that is no leaf
 unfoldable pub walkAnswers : List ℕ → ℕ → Stepped → List Answer
 walkAnswers w zero s = []
-walkAnswers w (suc k) s = s .answer ∷ unlessLeaf (s .answer) (walkAnswers w k (nextLeafOf w (s .cursor) (s .list)))
+walkAnswers w (suc k) s = s .answer ∷ unlessLeaf (s .answer) (walkAnswers w k (nextLeafOf lent w (s .cursor) (s .list)))
   where
     unlessLeaf : Answer → List Answer → List Answer
     unlessLeaf (result []) more = []
@@ -57,18 +57,18 @@ ran o = record { answers = o .answer ∷ []; words = o .words }
 
 -- lists lent here always suffice
 unfoldable pub run : List ℕ → Call → Ran
-run w (Create C P s) = ran (create (replicate (storeLength C P) 7) C P s)
-run w (Append k x) = ran (insertRowPage w k x)
-run w (Find q) = record { answers = tryFindRow w q ∷ []; words = w }
-run w (Prune s e ids) = ran (pruneCheckpointPrefix w s e ids)
-run w (Walk q) = record { answers = walkAnswers w 20 (nextLeafOf w (seek q) (replicate 8 (pageEntry 0 0))); words = w }
-run w (Release v) = let r = destroy w v (replicate 20 0) in record { answers = r .answer ∷ []; words = r .words }
-run w ReleaseEmpty = ran (destroyEmpty w)
-run w Check = record { answers = fullCheck w ∷ []; words = w }
+run w (Create C P s) = ran (create lent (replicate (storeLength C P) 7) C P s)
+run w (Append k x) = ran (insertRowPage lent w k x)
+run w (Find q) = record { answers = tryFindRow lent w q ∷ []; words = w }
+run w (Prune s e ids) = ran (pruneCheckpointPrefix lent w s e ids)
+run w (Walk q) = record { answers = walkAnswers w 20 (nextLeafOf lent w (seek q) (replicate 8 (pageEntry 0 0))); words = w }
+run w (Release v) = let r = destroy lent w v (replicate 20 0) in record { answers = r .answer ∷ []; words = r .words }
+run w ReleaseEmpty = ran (destroyEmpty lent w)
+run w Check = record { answers = fullCheck lent w ∷ []; words = w }
 run w Shape =
-    record { answers = result (shapes (suc (height (capacity w) w (root w))) (rootTree (capacity w) w (root w))) ∷ []; words = w }
+    record { answers = result (shapes (suc (height (storeShape lent w) w (root w))) (rootTree (storeShape lent w) w (root w))) ∷ []; words = w }
 run w (Set i x) = record { answers = result [] ∷ []; words = set w i x }
-run w (Put n j x) = record { answers = result [] ∷ []; words = put (capacity w) w n j x }
+run w (Put n j x) = record { answers = result [] ∷ []; words = put (storeShape lent w) w n j x }
 
 -- a call and what it must answer
 abbrev pub Line : Type 0

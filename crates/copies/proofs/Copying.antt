@@ -10,7 +10,7 @@ use lib.Seq.{getD-set-same, getD-set-other}
 use mathlib.Core.Logic.{⊎-elim}
 use lib.Dec.{T, leb, ltb, eqb, eqb→eq}
 use borrow.Author.Tests.{lt-ltb, le-ltb, eq-eqb, ne-eqb, ltb-true, ltb-false, le-leb, lt-leb}
-use Rattle.model.specs.Words.{pick, part, height, count, start, end, row, child}
+use Rattle.model.specs.Words.{Shape, pick, part, height, count, start, end, row, child}
 use Rattle.model.specs.Tree.{Node, Limit, Open, Level, pairsFrom, nodeAt, level, endSound, sound}
 use Rattle.model.specs.Cut.{cutPairs, cut, trimsPairs, trims, kept}
 use Rattle.model.specs.Prune.{Copies, unsound, copies, before, atLast, copiesFrom}
@@ -49,7 +49,7 @@ all-snoc [] m c = refl
 all-snoc (n ∷ ns) m c = ap (before n) (all-snoc ns m c)
 
 -- the last pair of a node
-last-pair : {K A : Type 0} (C : ℕ) (w : List ℕ) (g : ℕ → K) (n : ℕ) (f : K → ℕ → A) (a : A) (i m : ℕ) → atLast f a (pairsFrom C w g n i (suc m)) ≡ f (g (child C w n (i + m))) (row C w n (i + m))
+last-pair : {K A : Type 0} (C : Shape) (w : List ℕ) (g : ℕ → K) (n : ℕ) (f : K → ℕ → A) (a : A) (i m : ℕ) → atLast f a (pairsFrom C w g n i (suc m)) ≡ f (g (child C w n (i + m))) (row C w n (i + m))
 unfolding atLast pairsFrom
 last-pair C w g n f a i zero = rw add-zero
 last-pair C w g n f a i (suc m) = let z : i + 1 + m ≡ i + suc m = omega arith in last-pair C w g n f a (i + 1) m ∙ rw z
@@ -82,7 +82,7 @@ others-at l d i =
     (λ t. rw (pick-turn l d i (ltb-true i d t)))
     (λ t. rw (pick-stop l d i (ltb-false i d t)) (sym (pick-stop l d (i + 1) (omega (arith, ltb-false i d t)))))
 
-module _ (C P : ℕ) (w : List ℕ) (e : ℕ) where
+module _ (C : Shape) (P : ℕ) (w : List ℕ) (e : ℕ) where
   -- how many entries of node n stay
   pub kept-is : (h n : ℕ) → kept h e (level C w (suc h) n) (start C w n) ≡ count C w n - lostOf (trims (suc h) e (level C w (suc h) n) (start C w n))
   unfolding kept trims lostOf level
@@ -148,13 +148,13 @@ module _ (C P : ℕ) (w : List ℕ) (e : ℕ) where
     unfolding copiesFrom level
     one = rw (k, z, last-pair C w (level C w (suc h)) n _ (copies []) 0 c, zero-add c)
 
-pub first-pair : (C : ℕ) (w : List ℕ) (n c r : ℕ) (z : ℕ → Bool) → T (rows z r (pairsFrom C w (λ (x : ℕ). x) n 0 c)) → (1 ≤ c) × (row C w n 0 ≡ r)
+pub first-pair : (C : Shape) (w : List ℕ) (n c r : ℕ) (z : ℕ → Bool) → T (rows z r (pairsFrom C w (λ (x : ℕ). x) n 0 c)) → (1 ≤ c) × (row C w n 0 ≡ r)
 unfolding rows pairsFrom
 first-pair C w n zero r z t = absurd t
 first-pair C w n (suc c) r z t = (omega arith, eqb→eq (row C w n 0) r (and-l (eqb (row C w n 0) r) (rises z (row C w n 0) (pairsFrom C w (λ (x : ℕ). x) n (0 + 1) c)) t))
 
 -- The loop -----------------------------------------------------------------------------------------------
-module _ (C P : ℕ) (w : List ℕ) (root : ℕ) (l : List Position) (d : ℕ) where
+module _ (C : Shape) (P : ℕ) (w : List ℕ) (root : ℕ) (l : List Position) (d : ℕ) where
   abbrev whole : ℕ → List (ℕ × ℕ)
   whole e = trims (suc (height C w root)) e (level C w (suc (height C w root)) root) (start C w root)
 
@@ -171,13 +171,13 @@ module _ (C P : ℕ) (w : List ℕ) (root : ℕ) (l : List Position) (d : ℕ) w
     pub told : (e : ℕ) → whole e ≡ picks l d 0 d → (trims (suc h) e (level C w (suc h) n) (start C w n) ≡ picks l d i (d - i)) × (all e ≡ beforeAll (listed nodes 0 i) (copiesFrom C P h e (level C w (suc h) n) (start C w n)))
 
   module _ (nodes : List NodeNo) (n h i : ℕ) (G : Copying nodes n h i) where
-    own : (count C w n ≤ C) × (row C w n 0 ≡ start C w n) × (1 ≤ count C w n)
+    own : (count C w n ≤ C .cap) × (row C w n 0 ≡ start C w n) × (1 ≤ count C w n)
     own =
         let s = soundly C h (nodeAt C w n) (start C w n) Open (holds _ (G .good)) in
         let f = first-pair C w n (count C w n) (start C w n) (endSound h Open (end C w n)) (s .rise) in
         (omega (arith, s .many, length-pairs C w (λ (x : ℕ). x) n 0 (count C w n)), f .1, f .0)
 
-    pub narrow : count C w n ≤ C
+    pub narrow : count C w n ≤ C .cap
     narrow = own .0
 
     pub some : 1 ≤ count C w n

@@ -8,7 +8,7 @@ ghost use Rattle.model.specs.Words.{height, start};
 ghost use Rattle.model.specs.Tree.{Open, level, nodeAt, sound};
 ghost use Rattle.model.specs.Cut.{trims};
 ghost use Rattle.model.specs.Prune.{copiesFrom};
-ghost use Rattle.node.specs.Layout.{Fits};
+ghost use Rattle.node.specs.Layout.{Fits, shapeOf};
 ghost use Rattle.trim.specs.Picks.{Ahead, AllIn, picks};
 ghost use Rattle.copies.specs.Copied.{copiesOf, goneAt};
 use model::id::NodeNo;
@@ -45,8 +45,8 @@ fn gone(depth: usize, i: usize, index: u64) -> u64
 pub fn find_copies(l: Layout, s: &[u64], root: NodeNo, edge: Path) -> Copies
     requires { ⌜ Fits l (now s) ⌝ }
     requires { ⌜ (edge .depth ≤ 32) × (length (edge .positions) ≡ 32) × Ahead edge ⌝ }
-    requires { ⌜ (root .0 < l .pool) × (height (l .capacity) (now s) (root .0) ≤ 31) × (sound (l .capacity) (height (l .capacity) (now s) (root .0)) (nodeAt (l .capacity) (now s) (root .0)) (start (l .capacity) (now s) (root .0)) Open ≡ true) ⌝ }
-    ensures are { λ r. ⌜ ((e : ℕ) → trims (suc (height (l .capacity) (now (s .entry)) (root .0))) e (level (l .capacity) (now (s .entry)) (suc (height (l .capacity) (now (s .entry)) (root .0))) (root .0)) (start (l .capacity) (now (s .entry)) (root .0)) ≡ picks (edge .positions) (edge .depth) 0 (edge .depth) → copiesOf r ≡ copiesFrom (l .capacity) (l .pool) (height (l .capacity) (now (s .entry)) (root .0)) e (level (l .capacity) (now (s .entry)) (suc (height (l .capacity) (now (s .entry)) (root .0))) (root .0)) (start (l .capacity) (now (s .entry)) (root .0))) ⌝ }
+    requires { ⌜ (root .0 < l .pool) × (height (shapeOf l) (now s) (root .0) ≤ 31) × (sound (shapeOf l) (height (shapeOf l) (now s) (root .0)) (nodeAt (shapeOf l) (now s) (root .0)) (start (shapeOf l) (now s) (root .0)) Open ≡ true) ⌝ }
+    ensures are { λ r. ⌜ ((e : ℕ) → trims (suc (height (shapeOf l) (now (s .entry)) (root .0))) e (level (shapeOf l) (now (s .entry)) (suc (height (shapeOf l) (now (s .entry)) (root .0))) (root .0)) (start (shapeOf l) (now (s .entry)) (root .0)) ≡ picks (edge .positions) (edge .depth) 0 (edge .depth) → copiesOf r ≡ copiesFrom (shapeOf l) (l .pool) (height (shapeOf l) (now (s .entry)) (root .0)) e (level (shapeOf l) (now (s .entry)) (suc (height (shapeOf l) (now (s .entry)) (root .0))) (root .0)) (start (shapeOf l) (now (s .entry)) (root .0))) ⌝ }
     ensures few { λ r. ⌜ (r .count ≤ 31) × AllIn (l .pool) (r .nodes) (r .count) ⌝ }
 {
     let depth = edge.depth;

@@ -8,7 +8,7 @@ use native.Mathlib.Omega.{arith}
 use lib.ListN.{length}
 use lib.Dec.{T, leb, ltb, ltb→lt}
 use borrow.Author.Tests.{le-leb, leb-true, leb-false, ltb-false}
-use Rattle.model.specs.Words.{pick, capacity, pool, root, part, height, count, start, end, row, child, rowLimit, maxHeight}
+use Rattle.model.specs.Words.{storeShape, lent, Shape, pick, pool, root, part, height, count, start, end, row, child, rowLimit, maxHeight}
 use Rattle.model.specs.Tree.{Limit, Open, Below, endSound, sound, nodeAt, pairsFrom, rising, Level, level, last, overPairs, allPairs, Under, AllSound}
 use Rattle.model.specs.Reading.{Reached, leaf, nextRow, descend, rootLeaf, lastNotAbove, toRow, rootTree}
 use Rattle.model.specs.WellFormed.{WellFormed, EmptyRoot, SoundRoot, emptyTree, soundTree}
@@ -35,12 +35,12 @@ end-meets Open e l t = tt
 end-meets (Below x) e l t = meets-is (ltb l e) (leb e rowLimit) e x t
 
 -- what holds of f of every number holds of every pair
-all-made : {K : Type 0} (C : ℕ) (w : List ℕ) (f : ℕ → K) (n i k : ℕ) (b : Limit) → allPairs (λ (x : K) (r : ℕ) (c : Limit). (m : ℕ) × (x ≡ f m)) (pairsFrom C w f n i k) b
+all-made : {K : Type 0} (C : Shape) (w : List ℕ) (f : ℕ → K) (n i k : ℕ) (b : Limit) → allPairs (λ (x : K) (r : ℕ) (c : Limit). (m : ℕ) × (x ≡ f m)) (pairsFrom C w f n i k) b
 unfolding allPairs pairsFrom
 all-made C w f n i zero b = tt
 all-made C w f n i (suc k) b = ((child C w n i, refl), all-made C w f n (i + 1) k b)
 
-module _ (C P : ℕ) (w : List ℕ) where
+module _ (C : Shape) (P : ℕ) (w : List ℕ) where
   -- sound, and made of the words
   abbrev Made : (h : ℕ) → Level (suc h) → ℕ → Limit → Type 0
   Made h x r b = AllSound C P (suc h) x r b × ((m : ℕ) × (x ≡ level C w (suc h) m))
@@ -175,7 +175,7 @@ module _ (C P : ℕ) (w : List ℕ) where
 
 -- From the root -----------------------------------------------------------------------------------------------
 
-module _ (C P : ℕ) (w : List ℕ) where
+module _ (C : Shape) (P : ℕ) (w : List ℕ) where
   abbrev n : ℕ
   n = root w
 
@@ -209,15 +209,15 @@ module _ (C P : ℕ) (w : List ℕ) where
   root-full (soundTree l g) = inl (some C P w (height C w n) n (start C w n) Open g)
   root-full (emptyTree e) = inr (_, empty-one (height C w n) (start C w n) Open (e .leaf))
 
-module _ (w : List ℕ) (F : WellFormed w) where
-  pub store-full : (0 < count (capacity w) w (root w)) ⊎ ((x : LeafAt) × (storeLeaves w ≡ x ∷ []))
+module _ (w : List ℕ) (F : WellFormed lent w) where
+  pub store-full : (0 < count (storeShape lent w) w (root w)) ⊎ ((x : LeafAt) × (storeLeaves w ≡ x ∷ []))
   unfolding WellFormed
-  store-full = root-full (capacity w) (pool w) w (F .sound)
+  store-full = root-full (storeShape lent w) (pool w) w (F .sound)
 
-  pub store-lined : Lined (capacity w) w (storeLeaves w) Open × (lowOf (storeLeaves w) ≡ start (capacity w) w (root w))
+  pub store-lined : Lined (storeShape lent w) w (storeLeaves w) Open × (lowOf (storeLeaves w) ≡ start (storeShape lent w) w (root w))
   unfolding WellFormed
-  store-lined = root-lined (capacity w) (pool w) w (F .sound)
+  store-lined = root-lined (storeShape lent w) (pool w) w (F .sound)
 
-  pub store-reach : (q : ℕ) → rootLeaf (toRow (capacity w) w q) (capacity w) (pool w) w (root w) ≡ leafOf (chosenIn q (storeLeaves w))
+  pub store-reach : (q : ℕ) → rootLeaf (toRow (storeShape lent w) w q) (storeShape lent w) (pool w) w (root w) ≡ leafOf (chosenIn q (storeLeaves w))
   unfolding WellFormed
-  store-reach q = root-reach (capacity w) (pool w) w q (F .sound)
+  store-reach q = root-reach (storeShape lent w) (pool w) w q (F .sound)

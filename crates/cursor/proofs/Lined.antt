@@ -7,7 +7,7 @@ use mathlib.Core.Logic.{_⊎_, inl, inr}
 use native.Mathlib.Omega.{arith}
 use lib.Dec.{leb}
 use borrow.Author.Tests.{le-leb, lt-leb, leb-true, leb-false}
-use Rattle.model.specs.Words.{pick, root, part, count, start, end}
+use Rattle.model.specs.Words.{Shape, pick, root, part, count, start, end}
 use Rattle.model.specs.Tree.{Limit, Open, Below, pairsFrom, next, overPairs, allPairs, Under}
 use Rattle.model.proofs.Tests.{by-test}
 use Rattle.model.proofs.Look.{Chosen, choose}
@@ -16,8 +16,8 @@ use Rattle.formed.proofs.Linked.{Meets}
 use Rattle.cursor.specs.Walking.{LeafAt}
 
 -- what a step needs of a leaf
-pub record Good (C : ℕ) (w : List ℕ) (x : LeafAt) : Type 0 where
-  pub many : count C w (x .number) ≤ C
+pub record Good (C : Shape) (w : List ℕ) (x : LeafAt) : Type 0 where
+  pub many : count C w (x .number) ≤ C .cap
   pub held : x .pairs ≡ pairsFrom C w (λ (y : ℕ). y) (x .number) 0 (count C w (x .number))
   pub meets : Meets (x .next) (end C w (x .number))
   pub begin : start C w (x .number) ≡ x .low
@@ -40,7 +40,7 @@ unfoldable pub chosenIn : ℕ → List LeafAt → LeafAt
 chosenIn q [] = noLeaf
 chosenIn q (x ∷ xs) = chosenFrom q x xs
 
-module _ (C : ℕ) (w : List ℕ) where
+module _ (C : Shape) (w : List ℕ) where
   unfoldable pub Lined : List LeafAt → Limit → Type 0
   Lined [] b = ⊥
   Lined (x ∷ []) b = Good C w x × ((x .next ≡ b) × Under (x .low) b)

@@ -6,7 +6,7 @@ use mathlib.Core.Path.{_≡_, refl, sym, ap, _∙_, subst}
 use native.Mathlib.Omega.{arith}
 use lib.ListN.{length}
 use borrow.Author.Tests.{lt-ltb, le-ltb}
-use Rattle.model.specs.Words.{fill, part, count, capacity, pool, root}
+use Rattle.model.specs.Words.{storeShape, lent, fill, part, count, capacity, pool, root}
 use Rattle.model.specs.Reading.{Reached, unsound, leaf, rootLeaf, toRow}
 use Rattle.model.specs.Refusals.{Answer, result, refused, refusal, nextLeaf}
 use Rattle.model.specs.LeafWalk.{Stepped, records, given, nextLeafOf}
@@ -17,7 +17,7 @@ use Rattle.model.specs.declared.answer.Refusal.the-variants.{Unsound}
 use Rattle.model.specs.declared.answer.NextLeaf.{NextLeaf}
 use Rattle.model.specs.declared.answer.NextLeaf.the-variants.{Refused}
 use Rattle.model.specs.declared.cursor.RowPageIndexMemCursor.{RowPageIndexMemCursor}
-use Rattle.node.specs.Layout.{Fits, opened}
+use Rattle.node.specs.Layout.{shapeOf, Fits, opened}
 use Rattle.node.specs.Test.{limitOf}
 use Rattle.node.specs.declared.layout.Layout.{Layout}
 use Rattle.node.specs.declared.header.StoreHeader.{StoreHeader}
@@ -46,58 +46,58 @@ module _ (w : List ℕ) (c : RowPageIndexMemCursor) where
   stay-on a l = refl
 
   -- no leaf
-  pub stay-steps : (len : ℕ) (a : NextLeaf) → ((l : List PageEntry) → length l ≡ len → nextLeafOf w c l ≡ still c l (nextLeaf a)) → Steps w c len (stays a c)
+  pub stay-steps : (len : ℕ) (a : NextLeaf) → ((l : List PageEntry) → length l ≡ len → nextLeafOf lent w c l ≡ still c l (nextLeaf a)) → Steps w c len (stays a c)
   stay-steps len a f = record { is = λ l e. stay-on a l ∙ sym (f l e); readable = none-lie w; fits = omega arith }
 
-  pub give-on : (l : Layout) (n : NodeNo) (b : Limit) (list : List PageEntry) → onList w (gives l w n b) list ≡ given (l .capacity) w c list (leaf (n .0) (limitOf b))
+  pub give-on : (l : Layout) (n : NodeNo) (b : Limit) (list : List PageEntry) → onList w (gives l w n b) list ≡ given (shapeOf l) w c list (leaf (n .0) (limitOf b))
   unfolding given
   give-on l n b list = refl
 
-  pub next-refused : (r : Refusal) → opened w ≡ O.Refused r → (l : List PageEntry) → nextLeafOf w c l ≡ still c l (refusal r)
+  pub next-refused : (r : Refusal) → opened w ≡ O.Refused r → (l : List PageEntry) → nextLeafOf lent w c l ≡ still c l (refusal r)
   unfolding nextLeafOf
   next-refused r e l = is-refused w r e (still c l) _
 
   module _ (h : StoreHeader) (o : IsOpen w h) (l : List PageEntry) where
-    pub next-short : length l < capacity w → nextLeafOf w c l ≡ still c l (refused 13 (capacity w))
+    pub next-short : length l < capacity w → nextLeafOf lent w c l ≡ still c l (refused 13 (capacity w))
     unfolding nextLeafOf
     next-short g = goes-on w h o (still c l) _ ∙ rw (lt-ltb (length l) (capacity w) g)
 
-    pub next-done : capacity w ≤ length l → c .done ≡ true → nextLeafOf w c l ≡ still c l (result [])
+    pub next-done : capacity w ≤ length l → c .done ≡ true → nextLeafOf lent w c l ≡ still c l (result [])
     unfolding nextLeafOf
     next-done g d = goes-on w h o (still c l) _ ∙ rw (le-ltb (length l) (capacity w) g, d)
 
     pub next-given : capacity w ≤ length l → c .done ≡ false
-        → nextLeafOf w c l ≡ given (capacity w) w c l (rootLeaf (toRow (capacity w) w (c .«row_id» .0)) (capacity w) (pool w) w (root w))
+        → nextLeafOf lent w c l ≡ given (storeShape lent w) w c l (rootLeaf (toRow (storeShape lent w) w (c .«row_id» .0)) (storeShape lent w) (pool w) w (root w))
     unfolding nextLeafOf
     next-given g d = goes-on w h o (still c l) _ ∙ rw (le-ltb (length l) (capacity w) g, d)
 
 -- in the tree of an open store
 module _ (l : Layout) (w : List ℕ) (root : ℕ) (c : RowPageIndexMemCursor) where
   abbrev pub reached : Reached
-  reached = rootLeaf (toRow (l .capacity) w (c .«row_id» .0)) (l .capacity) (l .pool) w root
+  reached = rootLeaf (toRow (shapeOf l) w (c .«row_id» .0)) (shapeOf l) (l .pool) w root
 
   abbrev pub InTree : LeafStep → Type 0
   InTree r =
-      ((list : List PageEntry) → onList w r list ≡ given (l .capacity) w c list reached)
+      ((list : List PageEntry) → onList w r list ≡ given (shapeOf l) w c list reached)
       × (Readable w (r .entries) × (r .entries .count ≤ l .capacity))
 
   module _ (p : Path) (says : reachedOf p ≡ reached) (root-in : root < l .pool) where
     pub in-unsound : (n : NodeNo) → p ≡ Stopped n → InTree (stays (Refused (Unsound n)) c)
     unfolding given
-    in-unsound n e = ((λ list. stay-on w c (Refused (Unsound n)) list ∙ ap (given (l .capacity) w c list) (sym (ap reachedOf e) ∙ says)), (none-lie w, omega arith))
+    in-unsound n e = ((λ list. stay-on w c (Refused (Unsound n)) list ∙ ap (given (shapeOf l) w c list) (sym (ap reachedOf e) ∙ says)), (none-lie w, omega arith))
 
     module _ (n : NodeNo) (b : Limit) (e : p ≡ Arrived n b) where
       at-leaf : leaf (n .0) (limitOf b) ≡ reached
       at-leaf = sym (ap reachedOf e) ∙ says
 
-      sound-leaf : IsLeaf (l .capacity) (l .pool) w (n .0)
-      sound-leaf = is-leaf (toRow (l .capacity) w (c .«row_id» .0)) (l .capacity) (l .pool) w (n .0) (limitOf b) root root-in (sym at-leaf)
+      sound-leaf : IsLeaf (shapeOf l) (l .pool) w (n .0)
+      sound-leaf = is-leaf (toRow (shapeOf l) w (c .«row_id» .0)) (shapeOf l) (l .pool) w (n .0) (limitOf b) root root-in (sym at-leaf)
 
       pub leaf-in : n .0 < l .pool
       leaf-in = sound-leaf .inside
 
       pub in-leaf : Fits l w → InTree (gives l w n b)
-      in-leaf f = ((λ list. give-on w c l n b list ∙ ap (given (l .capacity) w c list) at-leaf), ((λ z. (f, (sound-leaf .inside, sound-leaf .many))), sound-leaf .many))
+      in-leaf f = ((λ list. give-on w c l n b list ∙ ap (given (shapeOf l) w c list) at-leaf), ((λ z. (f, (sound-leaf .inside, sound-leaf .many))), sound-leaf .many))
 
 pub tree-steps : (w : List ℕ) (c : RowPageIndexMemCursor) (h : StoreHeader) → IsOpen w h → (len : ℕ) (r : LeafStep) → capacity w ≤ len → c .done ≡ false
     → InTree (h .layout) w (h .root .0) c r → Steps w c len r

@@ -2,6 +2,7 @@
 use mathlib.Core.List.{List}
 use Prim.Native.Nat.{ℕ}
 use mathlib.Core.Path.{_≡_, sym, _∙_}
+use Rattle.model.specs.Words.{lent}
 use Rattle.model.specs.Refusals.{nextLeaf}
 use Rattle.model.specs.LeafWalk.{seek, nextLeafOf}
 use Rattle.model.specs.declared.answer.NextLeaf.{NextLeaf}
@@ -11,9 +12,9 @@ use Rattle.model.proofs.Answers.{next-leaf-one}
 
 -- an answer, a cursor and a list that the contract allows
 pub record Allowed (w : List ℕ) (c : RowPageIndexMemCursor) (list : List PageEntry) (a : NextLeaf) (d : RowPageIndexMemCursor) (l : List PageEntry) : Type 0 where
-  pub answer : nextLeaf a ≡ nextLeafOf w c list .answer
-  pub cursor : d ≡ nextLeafOf w c list .cursor
-  pub list-is : l ≡ nextLeafOf w c list .list
+  pub answer : nextLeaf a ≡ nextLeafOf lent w c list .answer
+  pub cursor : d ≡ nextLeafOf lent w c list .cursor
+  pub list-is : l ≡ nextLeafOf lent w c list .list
 
 pub next-unique : (w : List ℕ) (c : RowPageIndexMemCursor) (list : List PageEntry) (a b : NextLeaf) (d e : RowPageIndexMemCursor) (l m : List PageEntry)
     → Allowed w c list a d l → Allowed w c list b e m → (a ≡ b) × (d ≡ e) × (l ≡ m)

@@ -9,7 +9,7 @@ use native.Mathlib.Omega.{arith}
 use native.Mathlib.Numerals.{add-one}
 use lib.ListN.{length, set, take, length-append}
 use borrow.Author.Tests.{le-ltb}
-use Rattle.model.specs.Words.{fill, capacity, pool, root, part, height, count, start, end, row, child}
+use Rattle.model.specs.Words.{storeShape, lent, Shape, fill, capacity, pool, root, part, height, count, start, end, row, child}
 use Rattle.model.specs.Tree.{Limit, Open, Below, pairsFrom, Level, last, overPairs, next}
 use Rattle.model.specs.Reading.{Entry, entries, leaf, rootLeaf, toRow}
 use Rattle.model.specs.Refusals.{Answer, result}
@@ -71,10 +71,10 @@ unfolding entriesFrom walkFrom
 from-walk s [] = refl
 from-walk s (g ∷ gs) = ap (λ (t : List (ℕ × ℕ)). (s, g .page) ∷ t) (from-walk (g .end) gs)
 
-store-joined : (w : List ℕ) (l : Ledger) → Holds w l → joined (storeLeaves w) ≡ ledgerWalk l
+store-joined : (w : List ℕ) (l : Ledger) → Holds lent w l → joined (storeLeaves w) ≡ ledgerWalk l
 unfolding ledgerWalk
 store-joined w l H =
-    let C = capacity w in
+    let C = storeShape lent w in
     sym (tree-joined (height C w (root w)) _ (start C w (root w)) Open) ∙ ap (map lowPage) (H .entries) ∙ from-walk (l .start) (l .ranges)
 
 -- What a caller reads of the list -------------------------------------------------------------------------------
@@ -90,7 +90,7 @@ take-filled l [] h = refl
 take-filled [] (x ∷ xs) h = absurd (omega arith)
 take-filled (y ∷ l) (x ∷ xs) h = rw (add-one 0, fill-on x l 0 xs) (ap (λ t. x ∷ t) (take-filled l xs (omega arith)))
 
-module _ (C : ℕ) (w : List ℕ) (n : ℕ) where
+module _ (C : Shape) (w : List ℕ) (n : ℕ) where
   pairs-of : (i k : ℕ) → map pairOf (records C w n i k) ≡ pairsFrom C w (λ (x : ℕ). x) n i k
   unfolding records pairsFrom
   pairs-of i zero = refl
@@ -103,38 +103,38 @@ module _ (C : ℕ) (w : List ℕ) (n : ℕ) where
 
 -- The steps -----------------------------------------------------------------------------------------------------
 
-module _ (w : List ℕ) (F : WellFormed w) (c : RowPageIndexMemCursor) (l : List PageEntry) (room : capacity w ≤ length l) where
-  ends : c .done ≡ true → nextLeafOf w c l ≡ still c l (result [])
+module _ (w : List ℕ) (F : WellFormed lent w) (c : RowPageIndexMemCursor) (l : List PageEntry) (room : capacity w ≤ length l) where
+  ends : c .done ≡ true → nextLeafOf lent w c l ≡ still c l (result [])
   unfolding nextLeafOf
-  ends d = goes-on w F (still c l) _ ∙ rw (le-ltb (length l) (capacity w) room, d)
+  ends d = goes-on lent w F (still c l) _ ∙ rw (le-ltb (length l) (capacity w) room, d)
 
-  goes : c .done ≡ false → nextLeafOf w c l ≡ given (capacity w) w c l (leafOf (chosenIn (c .«row_id» .0) (storeLeaves w)))
+  goes : c .done ≡ false → nextLeafOf lent w c l ≡ given (storeShape lent w) w c l (leafOf (chosenIn (c .«row_id» .0) (storeLeaves w)))
   unfolding nextLeafOf
-  goes d = (goes-on w F (still c l) _ ∙ rw (le-ltb (length l) (capacity w) room, d)) ∙ ap (given (capacity w) w c l) (store-reach w F (c .«row_id» .0))
+  goes d = (goes-on lent w F (still c l) _ ∙ rw (le-ltb (length l) (capacity w) room, d)) ∙ ap (given (storeShape lent w) w c l) (store-reach w F (c .«row_id» .0))
 
   -- no step is refused
-  pub never-refused : (ys : List ℕ) × (nextLeafOf w c l .answer ≡ result ys)
+  pub never-refused : (ys : List ℕ) × (nextLeafOf lent w c l .answer ≡ result ys)
   unfolding given
   never-refused = by-done (c .done) refl
     where
-      by-done : (d : Bool) → c .done ≡ d → (ys : List ℕ) × (nextLeafOf w c l .answer ≡ result ys)
+      by-done : (d : Bool) → c .done ≡ d → (ys : List ℕ) × (nextLeafOf lent w c l .answer ≡ result ys)
       by-done true e = ([], ap (λ (s : Stepped). s .answer) (ends e))
       by-done false e = (_, ap (λ (s : Stepped). s .answer) (goes e))
 
   -- a step that gives leaf x
   record Gave (x : LeafAt) : Type 0 where
-    answer : nextLeafOf w c l .answer ≡ result (x .low ∷ end (capacity w) w (x .number) ∷ count (capacity w) w (x .number) ∷ [])
-    pairs : firstPairs (count (capacity w) w (x .number)) (nextLeafOf w c l .list) ≡ x .pairs
-    long : length (nextLeafOf w c l .list) ≡ length l
-    kept : nextLeafOf w c l .cursor .«row_id» .0 ≡ end (capacity w) w (x .number)
-    over : nextLeafOf w c l .cursor .done ≡ isLast (x .next)
+    answer : nextLeafOf lent w c l .answer ≡ result (x .low ∷ end (storeShape lent w) w (x .number) ∷ count (storeShape lent w) w (x .number) ∷ [])
+    pairs : firstPairs (count (storeShape lent w) w (x .number)) (nextLeafOf lent w c l .list) ≡ x .pairs
+    long : length (nextLeafOf lent w c l .list) ≡ length l
+    kept : nextLeafOf lent w c l .cursor .«row_id» .0 ≡ end (storeShape lent w) w (x .number)
+    over : nextLeafOf lent w c l .cursor .done ≡ isLast (x .next)
 
-  gave : (x : LeafAt) → c .done ≡ false → chosenIn (c .«row_id» .0) (storeLeaves w) ≡ x → Good (capacity w) w x → Gave x
+  gave : (x : LeafAt) → c .done ≡ false → chosenIn (c .«row_id» .0) (storeLeaves w) ≡ x → Good (storeShape lent w) w x → Gave x
   unfolding given
   gave x d h g =
-      let C = capacity w in
+      let C = storeShape lent w in
       let n = x .number in
-      let e : nextLeafOf w c l ≡ given C w c l (leafOf x) = goes d ∙ ap (λ (y : LeafAt). given C w c l (leafOf y)) h in
+      let e : nextLeafOf lent w c l ≡ given C w c l (leafOf x) = goes d ∙ ap (λ (y : LeafAt). given C w c l (leafOf y)) h in
       record {
         answer = ap (λ (s : Stepped). s .answer) e ∙ ap (λ (z : ℕ). result (z ∷ end C w n ∷ count C w n ∷ [])) (g .begin);
         pairs = ap (λ (s : Stepped). firstPairs (count C w n) (s .list)) e ∙ read C w n (count C w n) l (omega (arith, g .many)) ∙ sym (g .held);
@@ -143,13 +143,13 @@ module _ (w : List ℕ) (F : WellFormed w) (c : RowPageIndexMemCursor) (l : List
         over = ap (λ (s : Stepped). s .cursor .done) e;
       }
 
-module _ (w : List ℕ) (F : WellFormed w) where
-  rest : (pre : List LeafAt) (x : LeafAt) (post : List LeafAt) → storeLeaves w ≡ pre ++ (x ∷ post) → Lined (capacity w) w (x ∷ post) Open
-  rest pre x post e = lined-rest (capacity w) w pre x post Open (subst (λ (ls : List LeafAt). Lined (capacity w) w ls Open) e (store-lined w F .0))
+module _ (w : List ℕ) (F : WellFormed lent w) where
+  rest : (pre : List LeafAt) (x : LeafAt) (post : List LeafAt) → storeLeaves w ≡ pre ++ (x ∷ post) → Lined (storeShape lent w) w (x ∷ post) Open
+  rest pre x post e = lined-rest (storeShape lent w) w pre x post Open (subst (λ (ls : List LeafAt). Lined (storeShape lent w) w ls Open) e (store-lined w F .0))
 
   chosen-own : (pre : List LeafAt) (y : LeafAt) (post : List LeafAt) → storeLeaves w ≡ pre ++ (y ∷ post) → chosenIn (y .low) (storeLeaves w) ≡ y
   chosen-own pre y post e =
-      ap (chosenIn (y .low)) e ∙ own (capacity w) w pre y post Open (subst (λ (ls : List LeafAt). Lined (capacity w) w ls Open) e (store-lined w F .0))
+      ap (chosenIn (y .low)) e ∙ own (storeShape lent w) w pre y post Open (subst (λ (ls : List LeafAt). Lined (storeShape lent w) w ls Open) e (store-lined w F .0))
 
   -- from leaf x on
   walks : (pre : List LeafAt) (x : LeafAt) (post : List LeafAt) → storeLeaves w ≡ pre ++ (x ∷ post) → (c : RowPageIndexMemCursor) (l : List PageEntry)
@@ -157,17 +157,17 @@ module _ (w : List ℕ) (F : WellFormed w) where
   unfolding joined isLast Lined Meets
   walks pre x [] e c l room d h =
       let L = rest pre x [] e in
-      let g = gave w F c l room x d h (lined-good (capacity w) w x [] Open L) in
-      let s = nextLeafOf w c l in
+      let g = gave w F c l room x d h (lined-good (storeShape lent w) w x [] Open L) in
+      let s = nextLeafOf lent w c l in
       let o : s .cursor .done ≡ true = g .over ∙ ap isLast (L .1 .0) in
       subst (λ (ps : List (ℕ × ℕ)). Gives w c l (ps ++ []) 1) (g .pairs)
       (one c l _ _ _ [] 0 (g .answer) (ended (s .cursor) (s .list) (ends w F (s .cursor) (s .list) (omega (arith, g .long)) o)))
   walks pre x (y ∷ ys) e c l room d h =
       let L = rest pre x (y ∷ ys) e in
-      let g = gave w F c l room x d h (lined-good (capacity w) w x (y ∷ ys) Open L) in
-      let s = nextLeafOf w c l in
+      let g = gave w F c l room x d h (lined-good (storeShape lent w) w x (y ∷ ys) Open L) in
+      let s = nextLeafOf lent w c l in
       let o : s .cursor .done ≡ false = g .over ∙ ap isLast (L .1 .0) in
-      let k : s .cursor .«row_id» .0 ≡ y .low = g .kept ∙ subst (λ (b : Limit). Meets b (end (capacity w) w (x .number))) (L .1 .0) (lined-good (capacity w) w x (y ∷ ys) Open L .meets) in
+      let k : s .cursor .«row_id» .0 ≡ y .low = g .kept ∙ subst (λ (b : Limit). Meets b (end (storeShape lent w) w (x .number))) (L .1 .0) (lined-good (storeShape lent w) w x (y ∷ ys) Open L .meets) in
       let e′ : storeLeaves w ≡ (pre ++ (x ∷ [])) ++ (y ∷ ys) = e ∙ sym (append-assoc pre (x ∷ []) (y ∷ ys)) in
       let u : chosenIn (s .cursor .«row_id» .0) (storeLeaves w) ≡ y =
       ap (λ (q : ℕ). chosenIn q (storeLeaves w)) k ∙ chosen-own (pre ++ (x ∷ [])) y ys e′ in
@@ -177,19 +177,19 @@ module _ (w : List ℕ) (F : WellFormed w) where
 -- The laws ------------------------------------------------------------------------------------------------------
 
 -- (a) from a row at or below the start: all records, in as many steps as the tree has leaves
-pub walk-law : (w : List ℕ) (l : Ledger) → Holds w l → (q : ℕ) → q ≤ l .start → (list : List PageEntry) → capacity w ≤ length list
+pub walk-law : (w : List ℕ) (l : Ledger) → Holds lent w l → (q : ℕ) → q ≤ l .start → (list : List PageEntry) → capacity w ≤ length list
     → Gives w (seek q) list (ledgerWalk l) (leafCount w)
 unfolding Lined lowOf
 walk-law w l H q h list room = subst (λ (ps : List (ℕ × ℕ)). Gives w (seek q) list ps (length (storeLeaves w))) (store-joined w l H) (go (storeLeaves w) refl)
   where
-    lined : (ls : List LeafAt) → storeLeaves w ≡ ls → Lined (capacity w) w ls Open
-    lined ls e = subst (λ (xs : List LeafAt). Lined (capacity w) w xs Open) e (store-lined w (H .formed) .0)
+    lined : (ls : List LeafAt) → storeLeaves w ≡ ls → Lined (storeShape lent w) w ls Open
+    lined ls e = subst (λ (xs : List LeafAt). Lined (storeShape lent w) w xs Open) e (store-lined w (H .formed) .0)
 
     go : (ls : List LeafAt) → storeLeaves w ≡ ls → Gives w (seek q) list (joined ls) (length ls)
     go [] e = absurd (lined [] e)
     go (x ∷ xs) e =
         let low : x .low ≡ l .start = ap lowOf (sym e) ∙ store-lined w (H .formed) .1 ∙ H .begin in
-        walks w (H .formed) [] x xs e (seek q) list room refl (ap (chosenIn q) e ∙ first-chosen (capacity w) w q x xs Open (lined (x ∷ xs) e) (omega (arith, low)))
+        walks w (H .formed) [] x xs e (seek q) list room refl (ap (chosenIn q) e ∙ first-chosen (storeShape lent w) w q x xs Open (lined (x ∷ xs) e) (omega (arith, low)))
 
 record Parted (s : ℕ) (gs : List Range) (a b : List (ℕ × ℕ)) : Type 0 where
   before : List Range
@@ -218,22 +218,22 @@ walk-begins s (g ∷ gs) r x ps e = ap (λ (l : List (ℕ × ℕ)). headOf l .0)
 begins-row : (s : ℕ) (gs : List Range) (r : ℕ) (ps qs : List (ℕ × ℕ)) → Begins r ps → walkFrom s gs ≡ ps ++ qs → s ≡ r
 begins-row s gs r _ qs (begins x ps) e = walk-begins s gs r x (ps ++ qs) e
 
-module _ (w : List ℕ) (l : Ledger) (H : Holds w l) (q : ℕ) (list : List PageEntry) (room : capacity w ≤ length list) where
+module _ (w : List ℕ) (l : Ledger) (H : Holds lent w l) (q : ℕ) (list : List PageEntry) (room : capacity w ≤ length list) where
   abbrev reached : LeafAt
   reached = chosenIn q (storeLeaves w)
 
-  end-next : (post : List LeafAt) → Lined (capacity w) w (reached ∷ post) Open → q < lowOf post → q < end (capacity w) w (reached .number)
+  end-next : (post : List LeafAt) → Lined (storeShape lent w) w (reached ∷ post) Open → q < lowOf post → q < end (storeShape lent w) w (reached .number)
   unfolding Lined lowOf Meets
   end-next [] L h = absurd (omega arith)
   end-next (y ∷ ys) L h =
-      let m : end (capacity w) w (reached .number) ≡ y .low = subst (λ (b : Limit). Meets b (end (capacity w) w (reached .number))) (L .1 .0) (L .0 .meets) in
+      let m : end (storeShape lent w) w (reached .number) ≡ y .low = subst (λ (b : Limit). Meets b (end (storeShape lent w) w (reached .number))) (L .1 .0) (L .0 .meets) in
       omega (arith, m)
 
   -- the ranges before and after the leaf
   made : (pre post : List LeafAt) → storeLeaves w ≡ pre ++ (reached ∷ post) → (post ≡ []) ⊎ (q < lowOf post) → (before after : List Range) → l .ranges ≡ before ++ after
       → endFrom (l .start) before ≡ reached .low → walkFrom (endFrom (l .start) before) after ≡ joined (reached ∷ post) → (before ≡ []) ⊎ (endFrom (l .start) before ≤ q) → From w l q list
   made pre post e hi before after is at walk lo =
-      let C = capacity w in
+      let C = storeShape lent w in
       let n = reached .number in
       let L = rest w (H .formed) pre reached post e in
       let g = gave w (H .formed) (seek q) list room reached refl refl (lined-good C w reached post Open L) in
@@ -259,7 +259,7 @@ module _ (w : List ℕ) (l : Ledger) (H : Holds w l) (q : ℕ) (list : List Page
       ⊎-elim
       (λ f.
       let t = walk-part (joined (p ∷ pre)) (l .start) (l .ranges) (joined (reached ∷ post)) (sym (store-joined w l H) ∙ ap joined e ∙ joined-append (p ∷ pre) (reached ∷ post)) in
-      let good = lined-good (capacity w) w reached post Open (rest w (H .formed) (p ∷ pre) reached post e) in
+      let good = lined-good (storeShape lent w) w reached post Open (rest w (H .formed) (p ∷ pre) reached post e) in
       let at = begins-row (endFrom (l .start) (t .before)) (t .after) (reached .low) (reached .pairs) (joined post) (good .first f) (t .rest) in
       made (p ∷ pre) post e hi (t .before) (t .after) (t .is) at (t .rest)
       (⊎-elim (λ z. absurd (omega (arith, ap length z))) (λ h. inr (omega (arith, at))) lo))
@@ -268,11 +268,11 @@ module _ (w : List ℕ) (l : Ledger) (H : Holds w l) (q : ℕ) (list : List Page
 
   -- (b) from any row
   pub walk-from : From w l q list
-  walk-from = let s = split (capacity w) w q (storeLeaves w) Open (store-lined w (H .formed) .0) in from-split (s .pre) (s .post) (s .is) (s .low) (s .high)
+  walk-from = let s = split (storeShape lent w) w q (storeLeaves w) Open (store-lined w (H .formed) .0) in from-split (s .pre) (s .post) (s .is) (s .low) (s .high)
 
 -- (c) no step is refused: any cursor, any row
-pub walk-never : (w : List ℕ) (l : Ledger) → Holds w l → (c : RowPageIndexMemCursor) (list : List PageEntry) → capacity w ≤ length list
-    → (ys : List ℕ) × (nextLeafOf w c list .answer ≡ result ys)
+pub walk-never : (w : List ℕ) (l : Ledger) → Holds lent w l → (c : RowPageIndexMemCursor) (list : List PageEntry) → capacity w ≤ length list
+    → (ys : List ℕ) × (nextLeafOf lent w c list .answer ≡ result ys)
 walk-never w l H c list room = never-refused w (H .formed) c list room
 
 pub none-some : {s e k : ℕ} → result [] ≡ result (s ∷ e ∷ k ∷ []) → ⊥
@@ -287,6 +287,6 @@ gives-once w c l _ _ _ _ (ended _ _ a) (ended _ _ b) = (refl, refl)
 gives-once w c l _ _ _ _ (ended _ _ a) (one _ _ s e k ps n b g) = absurd (none-some (sym (ap (λ (z : Stepped). z .answer) a) ∙ b))
 gives-once w c l _ _ _ _ (one _ _ s e k ps n b g) (ended _ _ a) = absurd (none-some (sym (ap (λ (z : Stepped). z .answer) a) ∙ b))
 gives-once w c l _ _ _ _ (one _ _ s e k ps n a g) (one _ _ s₂ e₂ k₂ qs m b h) =
-    let r = gives-once w (nextLeafOf w c l .cursor) (nextLeafOf w c l .list) ps qs n m g h in
+    let r = gives-once w (nextLeafOf lent w c l .cursor) (nextLeafOf lent w c l .list) ps qs n m g h in
     let x : k ≡ k₂ = third (sym a ∙ b) in
     (rw (x, r .0), ap suc (r .1))

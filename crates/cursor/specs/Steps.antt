@@ -3,7 +3,8 @@ use Prim.Native.Nat.{ℕ, _<_, _≤_}
 use mathlib.Core.List.{List}
 use mathlib.Core.Path.{_≡_}
 use lib.ListN.{length}
-use Rattle.model.specs.Words.{fill, part, count, start, end}
+use Rattle.node.specs.Layout.{shapeOf}
+use Rattle.model.specs.Words.{lent, fill, part, count, start, end}
 use Rattle.model.specs.Refusals.{nextLeaf}
 use Rattle.model.specs.LeafWalk.{Stepped, cursorAt, isLast, nextLeafOf}
 use Rattle.model.specs.declared.id.NodeNo.{NodeNo}
@@ -24,7 +25,7 @@ stays a c = record { answer = a; cursor = c; entries = noEntries }
 -- leaf n, with what is next for it
 abbrev pub gives : Layout → List ℕ → NodeNo → Limit → LeafStep
 gives l w n b =
-    let C = l .capacity in
+    let C = shapeOf l in
     record {
       answer = Found (record {
         «start_row_id» = record { 0 = start C w (n .0) };
@@ -41,6 +42,6 @@ onList w r l = record { answer = nextLeaf (r .answer); cursor = r .cursor; list 
 
 -- the step for every list of this length, with what a copy of its entries needs
 pub record Steps (w : List ℕ) (c : RowPageIndexMemCursor) (len : ℕ) (r : LeafStep) : Type 0 where
-  pub is : (l : List PageEntry) → length l ≡ len → onList w r l ≡ nextLeafOf w c l
+  pub is : (l : List PageEntry) → length l ≡ len → onList w r l ≡ nextLeafOf lent w c l
   pub readable : Readable w (r .entries)
   pub fits : r .entries .count ≤ len

@@ -4,7 +4,7 @@ use mathlib.Core.List.{List, [], _∷_, _++_, map}
 use mathlib.Core.Path.{_≡_}
 use mathlib.Core.Logic.{_⊎_}
 use lib.ListN.{length, take}
-use Rattle.model.specs.Words.{capacity, root, part, height, start}
+use Rattle.model.specs.Words.{storeShape, lent, root, part, height, start}
 use Rattle.model.specs.Tree.{Limit, Open, Level, overPairs}
 use Rattle.model.specs.Reading.{rootTree}
 use Rattle.model.specs.Refusals.{result}
@@ -25,7 +25,7 @@ leaves zero t r b = record { number = t .number; low = r; next = b; pairs = t .p
 leaves (suc h) t r b = overPairs (leaves h) (t .pairs) b
 
 abbrev pub storeLeaves : List ℕ → List LeafAt
-storeLeaves w = let C = capacity w in leaves (height C w (root w)) (rootTree C w (root w)) (start C w (root w)) Open
+storeLeaves w = let C = storeShape lent w in leaves (height C w (root w)) (rootTree C w (root w)) (start C w (root w)) Open
 
 -- how many there are
 abbrev pub leafCount : List ℕ → ℕ
@@ -41,9 +41,9 @@ firstPairs k l = map pairOf (take k l)
 -- From this cursor and this list, n steps give a leaf each, the one after them gives none, and the records of the
 -- leaves, joined, are these pairs.
 pub data Gives (w : List ℕ) : RowPageIndexMemCursor → List PageEntry → List (ℕ × ℕ) → ℕ → Type 0 where
-  ended : (c : RowPageIndexMemCursor) (l : List PageEntry) → nextLeafOf w c l ≡ record { answer = result []; cursor = c; list = l } → Gives w c l [] 0
-  one : (c : RowPageIndexMemCursor) (l : List PageEntry) (s e k : ℕ) (ps : List (ℕ × ℕ)) (n : ℕ) → nextLeafOf w c l .answer ≡ result (s ∷ e ∷ k ∷ [])
-      → Gives w (nextLeafOf w c l .cursor) (nextLeafOf w c l .list) ps n → Gives w c l (firstPairs k (nextLeafOf w c l .list) ++ ps) (suc n)
+  ended : (c : RowPageIndexMemCursor) (l : List PageEntry) → nextLeafOf lent w c l ≡ record { answer = result []; cursor = c; list = l } → Gives w c l [] 0
+  one : (c : RowPageIndexMemCursor) (l : List PageEntry) (s e k : ℕ) (ps : List (ℕ × ℕ)) (n : ℕ) → nextLeafOf lent w c l .answer ≡ result (s ∷ e ∷ k ∷ [])
+      → Gives w (nextLeafOf lent w c l .cursor) (nextLeafOf lent w c l .list) ps n → Gives w c l (firstPairs k (nextLeafOf lent w c l .list) ++ ps) (suc n)
 
 -- From any row: the leaf reached begins where some of the ledger's ranges end, not above the row unless it is the
 -- first leaf, and ends above the row unless it is the last; the records are those of the ranges from there on
@@ -53,7 +53,7 @@ pub record From (w : List ℕ) (l : Ledger) (q : ℕ) (list : List PageEntry) : 
   pub is : l .ranges ≡ before ++ after
   pub end : ℕ
   pub many : ℕ
-  pub answer : nextLeafOf w (seek q) list .answer ≡ result (endFrom (l .start) before ∷ end ∷ many ∷ [])
+  pub answer : nextLeafOf lent w (seek q) list .answer ≡ result (endFrom (l .start) before ∷ end ∷ many ∷ [])
   pub steps : ℕ
   pub gives : Gives w (seek q) list (walkFrom (endFrom (l .start) before) after) (suc steps)
   pub low : (before ≡ []) ⊎ (endFrom (l .start) before ≤ q)

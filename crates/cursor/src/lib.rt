@@ -3,11 +3,12 @@
 ghost use mathlib.Core.Path.{_≡_};
 ghost use mathlib.Core.List.{List};
 ghost use Prim.Native.Nat.{_<_, _≤_};
+ghost use Rattle.model.specs.Words.{lent};
 ghost use Rattle.model.specs.Refusals.{nextLeaf};
 ghost use Rattle.model.specs.Reading.{rootLeaf, toRow};
 ghost use Rattle.model.specs.LeafWalk.{given, nextLeafOf};
 ghost use Rattle.model.specs.LeafWalk as W;
-ghost use Rattle.node.specs.Layout.{Fits};
+ghost use Rattle.node.specs.Layout.{Fits, shapeOf};
 ghost use Rattle.listing.specs.Listing.{Readable};
 ghost use Rattle.cursor.specs.Steps.{Steps, gives, onList, stays};
 use descend::path;
@@ -77,7 +78,7 @@ fn give(l: Layout, s: &[u64], n: NodeNo, next: Limit) -> LeafStep
 fn step_in_tree(l: Layout, s: &[u64], root: NodeNo, cursor: RowPageIndexMemCursor) -> LeafStep
     requires { ⌜ Fits l (now s) ⌝ }
     requires { ⌜ root .0 < l .pool ⌝ }
-    ensures is { λ r. ⌜ ((list : List PageEntry) → onList (now (s .entry)) r list ≡ given (l .capacity) (now (s .entry)) cursor list (rootLeaf (toRow (l .capacity) (now (s .entry)) (cursor .«row_id» .0)) (l .capacity) (l .pool) (now (s .entry)) (root .0))) ⌝ }
+    ensures is { λ r. ⌜ ((list : List PageEntry) → onList (now (s .entry)) r list ≡ given (shapeOf l) (now (s .entry)) cursor list (rootLeaf (toRow (shapeOf l) (now (s .entry)) (cursor .«row_id» .0)) (shapeOf l) (l .pool) (now (s .entry)) (root .0))) ⌝ }
     ensures lies { λ r. ⌜ Readable (now (s .entry)) (r .entries) ⌝ }
     ensures few { λ r. ⌜ r .entries .count ≤ l .capacity ⌝ }
 {
@@ -128,9 +129,9 @@ pub fn seek(c: &mut RowPageIndexMemCursor, row: RowID)
 
 // Gives the leaf reached for the row kept, and keeps that leaf's end. Its entries go into the list.
 pub fn next(c: &mut RowPageIndexMemCursor, s: &[u64], list: &mut [PageEntry]) -> NextLeaf
-    ensures { λ r. ⌜ (nextLeaf r ≡ nextLeafOf (now (s .entry)) (now (c .entry)) (now (list .entry)) .answer)
-        × ((now (c .exit) ≡ nextLeafOf (now (s .entry)) (now (c .entry)) (now (list .entry)) .cursor)
-        × (now (list .exit) ≡ nextLeafOf (now (s .entry)) (now (c .entry)) (now (list .entry)) .list)) ⌝ }
+    ensures { λ r. ⌜ (nextLeaf r ≡ nextLeafOf lent (now (s .entry)) (now (c .entry)) (now (list .entry)) .answer)
+        × ((now (c .exit) ≡ nextLeafOf lent (now (s .entry)) (now (c .entry)) (now (list .entry)) .cursor)
+        × (now (list .exit) ≡ nextLeafOf lent (now (s .entry)) (now (c .entry)) (now (list .entry)) .list)) ⌝ }
 {
     let p = step(s, *c, list.len());
     listing::copy_out(s, list, p.entries);

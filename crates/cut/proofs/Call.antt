@@ -7,7 +7,7 @@ use native.Mathlib.Omega.{arith}
 use lib.ListN.{length, length-append}
 use lib.Dec.{leb, ltb, eqb, ltb→lt}
 use borrow.Author.Tests.{le-ltb, le-leb, eq-eqb, ne-eqb}
-use Rattle.model.specs.Words.{pick, root, freeHead, freeCount, storeLength, height, count, start, maxHeight}
+use Rattle.model.specs.Words.{Shape, pick, root, freeHead, freeCount, storeLength, height, count, start, maxHeight}
 use Rattle.model.specs.Tree.{nodeAt, Open, sound, emptyRoot, rootSound, Level, level}
 use Rattle.model.specs.Reading.{visits, entries, nodes}
 use Rattle.model.specs.WellFormed.{Chain, EmptyRoot}
@@ -29,7 +29,7 @@ use Rattle.cut.proofs.Check.{run, scan-sound}
 abbrev refuse : List ℕ → ℕ → ℕ → Outcome
 refuse w a d = record { answer = refused a d; words = w }
 
-module _ (C P : ℕ) (w : List ℕ) (h r : ℕ) (ns : List ℕ) (formed : Formed C P w h r ns) where
+module _ (C : Shape) (P : ℕ) (w : List ℕ) (h r : ℕ) (ns : List ℕ) (formed : Formed C P w h r ns) where
   abbrev tree : Level (suc h)
   tree = treeOf C w h
 
@@ -60,7 +60,7 @@ module _ (C P : ℕ) (w : List ℕ) (h r : ℕ) (ns : List ℕ) (formed : Formed
   module _ (s e : ℕ) (ids : List ℕ) where
     -- on an empty root
     pub asked-blank : Blank P h tree r
-        → pruneCheckpointPrefix w s e ids ≡ pick (eqb (length ids) 0 || leb e s) (refuse w 7 0) (pick (eqb s r) (refuse w 11 0) (refuse w 8 r))
+        → pruneCheckpointPrefix (C .slots) w s e ids ≡ pick (eqb (length ids) 0 || leb e s) (refuse w 7 0) (pick (eqb s r) (refuse w 11 0) (refuse w 8 r))
     unfolding pruneCheckpointPrefix rootSound
     asked-blank none = rw (formed-header C P w h r ns formed, formed .pool-is, is-open, formed .capacity-is, is-empty C w (root w) (blank-empty C P w h r none), empty-start none)
 
@@ -72,7 +72,7 @@ module _ (C P : ℕ) (w : List ℕ) (h r : ℕ) (ns : List ℕ) (formed : Formed
           (subst (λ (k : ℕ). scan C w e (visits false C P (suc h) (root w) tree k Open) (on ids 0 0) ≡ run e (entries (suc h) tree r Open) (on ids 0 0)) (sym (root-own well .1))
           (scan-sound C P w e h (root w) (root w) r Open (on ids 0 0) (well-sound C P (suc h) tree r Open well)))
 
-      pub asked-held : pruneCheckpointPrefix w s e ids
+      pub asked-held : pruneCheckpointPrefix (C .slots) w s e ids
           ≡ pick (eqb (length ids) 0 || leb e s) (refuse w 7 0)
           (pick (eqb s r) (pruneScanned C P w (root w) h e tree (ranOut e (run e (entries (suc h) tree r Open) (on ids 0 0)))) (refuse w 8 r))
       unfolding pruneCheckpointPrefix

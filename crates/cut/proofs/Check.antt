@@ -7,7 +7,7 @@ use native.Mathlib.Omega.{arith}
 use lib.ListN.{length, drop}
 use lib.Dec.{leb, ltb, eqb}
 use borrow.Author.Tests.{lt-ltb, le-ltb, ne-eqb, leb-true}
-use Rattle.model.specs.Words.{pick, height, count, end, row, child}
+use Rattle.model.specs.Words.{Shape, pick, height, count, end, row, child}
 use Rattle.model.specs.Tree.{Limit, Open, Below, pairsFrom, level, next, last, sound, overPairs, allPairs, AllSound}
 use Rattle.model.specs.Reading.{Visit, Enter, Leave, Bad, passes, visits, Entry, entries}
 use Rattle.model.specs.Prune.{Scan, stopped, on, entryEnd, against, scanLeaf, spoilt, scan}
@@ -30,7 +30,7 @@ unfolding run
 run-append e [] b s = refl
 run-append e (x ∷ a) b s = run-append e a b (against e (x .page) (endOf (x .high)) s)
 
-module _ (C P : ℕ) (w : List ℕ) (e : ℕ) where
+module _ (C : Shape) (P : ℕ) (w : List ℕ) (e : ℕ) where
   pub scan-append : (a b : List Visit) (s : Scan) → scan C w e (a ++ b) s ≡ scan C w e b (scan C w e a s)
   unfolding scan
   scan-append [] b s = refl

@@ -4,6 +4,7 @@ use mathlib.Core.List.{List, [], _∷_, _++_, reverse, reverse-cons, append-nil,
 use mathlib.Core.Path.{_≡_, refl, sym, ap, _∙_}
 use native.Mathlib.Omega.{arith}
 use lib.ListN.{length}
+use Rattle.model.specs.Words.{Shape}
 use Rattle.model.specs.Tree.{Limit, Level, next, last, sound, overPairs, allPairs}
 use Rattle.model.specs.Reading.{entries, inPairs, nodes}
 use Rattle.model.proofs.Sound.{Begins, begins, sound-begins}
@@ -64,7 +65,7 @@ unfolding collapse copiedNodes
 collapse-levels n zero t = refl
 collapse-levels n (suc h) t = only-levels h n (suc h, named n t) (t .pairs) refl (collapse-levels n h)
 
-module _ (C P n : ℕ) (inside : n < P) where
+module _ (C : Shape) (P n : ℕ) (inside : n < P) where
   abbrev pub WellTree : Tree → ℕ → Limit → Type 0
   WellTree t r b = Well C P (suc (t .0)) (t .1) r b
 

@@ -7,7 +7,7 @@ use native.Mathlib.Omega.{arith}
 use lib.ListN.{length}
 use lib.Dec.{ltb, eqb}
 use borrow.Author.Tests.{ne-eqb}
-use Rattle.model.specs.Words.{pick}
+use Rattle.model.specs.Words.{Shape, pick}
 use Rattle.model.specs.Tree.{Node, Limit, Open, Level, next, last, sound, allPairs}
 use Rattle.model.specs.Cut.{Rest, stays, keep, cutPairs, cut, kept}
 use Rattle.model.specs.Prune.{Copies, unsound, copies, before, atLast, copiesFrom}
@@ -41,7 +41,7 @@ module _ {K : Type 0} (e : ℕ) (Q : K → ℕ → Limit → Type 0) (f : K → 
       (λ g. let r = lone k₂ ps (a .1) (rw g at p) in record { what = r .what; low = r .low; is = r .is; holds = r .holds; at = λ h z. r .at h z })
       (λ x g. let q = nothing-kept k (k₂ ∷ ps) (upTo e (k .0)) x (rw g at p) in let n : _≡_ {A = ℕ} 0 1 = cc in absurd (omega arith))
 
-module _ (C P e : ℕ) where
+module _ (C : Shape) (P e : ℕ) where
   -- what 01 says of pair (s, x) of t, whose child is to be copied
   abbrev admit : (h : ℕ) → Level (suc (suc h)) → Level (suc h) → ℕ → Copies
   admit h t x s =

@@ -4,7 +4,7 @@ use mathlib.Core.List.{List, [], _∷_, append-nil}
 use mathlib.Core.Path.{_≡_, refl, sym, _∙_, subst}
 use mathlib.Core.Logic.{_≢_}
 use native.Mathlib.Omega.{arith}
-use Rattle.model.specs.Words.{word, part, count, child, rowPlace, childPlace, nodeSize, copied, Header}
+use Rattle.model.specs.Words.{Shape, word, part, count, child, rowPlace, childPlace, nodeSize, copied, Header}
 use Rattle.model.specs.Tree.{Open, Level, pairsFrom, level}
 use Rattle.model.specs.Reading.{occ, inPairs, nodes}
 use Rattle.model.specs.Prune.{copyAll}
@@ -13,16 +13,16 @@ use Rattle.model.proofs.Frame.{Same, Narrow, kept, occ-append, occ-self, length
 use Rattle.model.proofs.Writes.{pairs-same, copied-length, copied-word, copied-keeps, copied-part}
 use Rattle.cut.specs.Cutting.{Tree, named, onlyOr, collapse, copiedNodes}
 
-module _ (C P a b : ℕ) (inside : b < P) (apart : a ≢ b) (w : List ℕ) (hd : Header C P w) where
-  pub copied-header : Header C P (copied C w a b)
-  copied-header = header-at C P w (copied C w a b) hd (copied-length C a b w)
+module _ (C : Shape) (P a b : ℕ) (inside : b < P) (apart : a ≢ b) (w : List ℕ) (hd : Header (C .cap) P w) where
+  pub copied-header : Header (C .cap) P (copied C w a b)
+  copied-header = header-at (C .cap) P w (copied C w a b) hd (copied-length C a b w)
 
   pub copied-level : (h : ℕ) → Narrow C (suc h) (level C w (suc h) a) → occ b (nodes (suc h) (level C w (suc h) a)) ≡ 0 → level C (copied C w a b) (suc h) b ≡ named b (level C w (suc h) a)
   unfolding level Narrow
   copied-level h nar z =
-      let few : count C w a ≤ C = omega (arith, nar .0, length-pairs C w (level C w h) a 0 (count C w a)) in
+      let few : count C w a ≤ C .cap = omega (arith, nar .0, length-pairs C w (level C w h) a 0 (count C w a)) in
       let v = copied C w a b in
-      let p : (i : ℕ) → i < nodeSize C → part C v b i ≡ part C w a i = λ i l. copied-part C a b w P hd apart inside i l in
+      let p : (i : ℕ) → i < nodeSize (C .cap) → part C v b i ≡ part C w a i = λ i l. copied-part C a b w P hd apart inside i l in
       rw (
         p 0 (omega arith),
         p 1 (omega arith),
@@ -30,8 +30,8 @@ module _ (C P a b : ℕ) (inside : b < P) (apart : a ≢ b) (w : List ℕ) (hd :
         p 3 (omega arith),
         ← pairs-same C w v (level C w h) (level C v h) a b 0 (count C w a)
             (λ j l u. (
-              sym (p (rowPlace C j) (omega arith)),
-              sym (p (childPlace C j) (omega arith)),
+              sym (p (rowPlace j) (omega arith)),
+              sym (p (childPlace j) (omega arith)),
               kept C w v h (child C w a j) (all-child C w (level C w h) a (λ x r c. Narrow C h x) 0 (count C w a) Open (nar .1) j (omega arith) (omega arith) .1)
                   (λ m q. copied-keeps C a b w m (λ e. absurd (omega (arith, z, nodes-self C w h a b, occ-child C w (level C w h) a (nodes h) b 0 (count C w a) j (omega arith) (omega arith), subst (λ (k : ℕ). 0 < occ k (nodes h (level C w h (child C w a j)))) e q)))),
             )),
@@ -48,7 +48,7 @@ unfolding collapse
 collapse-named zero n m x = refl
 collapse-named (suc h) n m x = refl
 
-narrow-named : (C h n : ℕ) (x : Level (suc h)) → Narrow C (suc h) x → Narrow C (suc h) (named n x)
+narrow-named : (C : Shape) (h n : ℕ) (x : Level (suc h)) → Narrow C (suc h) x → Narrow C (suc h) (named n x)
 unfolding Narrow
 narrow-named C h n x a = a
 
@@ -57,22 +57,22 @@ by-count zero f g k = f refl
 by-count (suc zero) f g k = g refl
 by-count (suc (suc c)) f g k = k c refl
 
-pub record Collapsed (C P n : ℕ) (v v₂ : List ℕ) (t : Tree) : Type 0 where
+pub record Collapsed (C : Shape) (P n : ℕ) (v v₂ : List ℕ) (t : Tree) : Type 0 where
   pub tree : level C v₂ (suc (t .0)) n ≡ t .1
-  pub header : Header C P v₂
+  pub header : Header (C .cap) P v₂
   pub beside : (m : ℕ) → m ≢ n → Same C v v₂ m
 
-module _ (C P n : ℕ) (inside : n < P) where
+module _ (C : Shape) (P n : ℕ) (inside : n < P) where
   unfoldable pub CopyLaw : ℕ → Type 0
-  CopyLaw h = (v : List ℕ) → Header C P v → (t : Level (suc h)) → level C v (suc h) n ≡ t → Narrow C (suc h) t → ((m : ℕ) → occ m (nodes (suc h) t) ≤ 1)
+  CopyLaw h = (v : List ℕ) → Header (C .cap) P v → (t : Level (suc h)) → level C v (suc h) n ≡ t → Narrow C (suc h) t → ((m : ℕ) → occ m (nodes (suc h) t) ≤ 1)
       → Collapsed C P n v (copyAll C v n (copiedNodes h t)) (collapse n h t)
 
-  stay : (h : ℕ) (v : List ℕ) → Header C P v → Collapsed C P n v v (h, named n (level C v (suc h) n))
+  stay : (h : ℕ) (v : List ℕ) → Header (C .cap) P v → Collapsed C P n v v (h, named n (level C v (suc h) n))
   unfolding level
   stay h v hd = record { tree = refl; header = hd; beside = λ m d i q. refl }
 
   -- the only child of n is copied into it
-  module _ (h : ℕ) (law : CopyLaw h) (v : List ℕ) (hd : Header C P v) (nar : Narrow C (suc (suc h)) (level C v (suc (suc h)) n))
+  module _ (h : ℕ) (law : CopyLaw h) (v : List ℕ) (hd : Header (C .cap) P v) (nar : Narrow C (suc (suc h)) (level C v (suc (suc h)) n))
       (one : (m : ℕ) → occ m (nodes (suc (suc h)) (level C v (suc (suc h)) n)) ≤ 1) (single : count C v n ≡ 1) where
     k : ℕ
     k = child C v n 0
@@ -126,7 +126,7 @@ module _ (C P n : ℕ) (inside : n < P) where
   not-only h v f z (suc zero) d = absurd (d refl)
   not-only h v f z (suc (suc c)) d = refl
 
-  stay-case : (h : ℕ) (v : List ℕ) → Header C P v → (count C v n ≡ 1 → ⊥)
+  stay-case : (h : ℕ) (v : List ℕ) → Header (C .cap) P v → (count C v n ≡ 1 → ⊥)
       → Collapsed C P n v (copyAll C v n (copiedNodes (suc h) (level C v (suc (suc h)) n))) (collapse n (suc h) (level C v (suc (suc h)) n))
   unfolding copiedNodes collapse level copyAll
   stay-case h v hd d =
@@ -145,7 +145,7 @@ module _ (C P n : ℕ) (inside : n < P) where
       (λ k e. stay-case h v hd (λ e₂. absurd (omega arith))))
       nar one
 
-pub copies-word : (C : ℕ) (w : List ℕ) (n : ℕ) (ns : List ℕ) (i : ℕ) → i < 8 → word (copyAll C w n ns) i ≡ word w i
+pub copies-word : (C : Shape) (w : List ℕ) (n : ℕ) (ns : List ℕ) (i : ℕ) → i < 8 → word (copyAll C w n ns) i ≡ word w i
 unfolding copyAll
 copies-word C w n [] i l = refl
 copies-word C w n (m ∷ ns) i l = copies-word C (copied C w m n) n ns i l ∙ copied-word C m n w i l

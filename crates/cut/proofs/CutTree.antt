@@ -7,6 +7,7 @@ use native.Mathlib.Omega.{arith}
 use lib.ListN.{length, length-append}
 use lib.Dec.{ltb→lt}
 use borrow.Author.Tests.{lt-ltb}
+use Rattle.model.specs.Words.{Shape}
 use Rattle.model.specs.Tree.{Limit, Level}
 use Rattle.model.specs.Reading.{entries, occ, nodes}
 use Rattle.model.specs.Cut.{Rest, gone, stays, ifGone, cutPairs, trim, cut, went}
@@ -30,7 +31,7 @@ pub length-reverse : (l : List ℕ) → length (reverse l) ≡ length l
 length-reverse [] = refl
 length-reverse (n ∷ l) = ap length (reverse-cons n l) ∙ omega (arith, length-append (reverse l) (n ∷ []), length-reverse l)
 
-module _ (C P h e : ℕ) (t : Level (suc h)) (r : ℕ) (b : Limit) (well : Well C P (suc h) t r b) (below : r < e)
+module _ (C : Shape) (P h e : ℕ) (t : Level (suc h)) (r : ℕ) (b : Limit) (well : Well C P (suc h) t r b) (below : r < e)
     (lands : Lands e (dropTo e (entries (suc h) t r b))) where
   -- what is tested at the root
   pub root-rest : trim e t (cutPairs e (cut h e) (t .pairs)) ≡ cut (suc h) e t r

@@ -7,7 +7,7 @@ use native.Mathlib.Omega.{arith}
 use lib.ListN.{length}
 use lib.Dec.{T, ltb, eqb, eqb→eq}
 use borrow.Author.Tests.{lt-ltb, ltb-true, ltb-false}
-use Rattle.model.specs.Words.{NONE}
+use Rattle.model.specs.Words.{Shape, NONE}
 use Rattle.model.specs.Tree.{Limit, Open, Below, Level, next, last, endSound, overPairs, allPairs, Under}
 use Rattle.model.specs.Reading.{Entry, entries, endFits}
 use Rattle.model.specs.Cut.{Rest, gone, stays, keep, cutPairs, trim, cut}
@@ -100,7 +100,7 @@ unfolding cut last
 last-ok zero e to b t x y r p l u = let q : gone ≡ stays y = rw (lt-ltb r e l) at p in let n : _≡_ {A = ℕ} 0 1 = cc in absurd (omega arith)
 last-ok (suc h) e to b t x y r p l u = end-ok h e to b t u
 
-module _ (C P : ℕ) where
+module _ (C : Shape) (P : ℕ) where
   trim-well : (h e : ℕ) (t : Level (suc h)) (r : ℕ) (b : Limit) (ps : List (ℕ × Level h)) → Well C P (suc h) t r b → r < e → length ps ≤ length (t .pairs)
       → PairsFit (Well C P h) (endSound h b (t .end)) e ps (last h (t .end) b) → RestFits (Well C P (suc h)) e (trim e t ps) r b
   unfolding Well trim RestFits PairsFit rows

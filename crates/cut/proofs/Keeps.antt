@@ -8,7 +8,7 @@ use native.Mathlib.Nat.{add-zero}
 use lib.ListN.{length, drop, length-append}
 use lib.Dec.{eqb}
 use borrow.Author.Tests.{le-leb, eqb-true}
-use Rattle.model.specs.Words.{root, freeCount, rowLimit}
+use Rattle.model.specs.Words.{Shape, root, freeCount, rowLimit}
 use Rattle.model.specs.Tree.{Open, Level, level, overPairs}
 use Rattle.model.specs.Reading.{Entry, entries, occ, nodes}
 use Rattle.model.specs.Refusals.{result, Outcome}
@@ -23,13 +23,13 @@ use Rattle.formed.proofs.Clean.{well-sound}
 use Rattle.formed.proofs.Bridge.{formed-root}
 use Rattle.formed.proofs.Linked.{Linked, sound-linked}
 use Rattle.formed.proofs.Opens.{formed-sum}
-use Rattle.cut.specs.Cutting.{Tree, treeEntries, treeNodes, goneNodes, collapse, copiedNodes}
+use Rattle.cut.specs.Cutting.{Tree, treeEntries, treeNodes, goneNodes, resetTree, collapse, leftTree, copiedNodes}
 use Rattle.cut.specs.Pruned.{collapsedLevels, Pruned, Accepts}
 use Rattle.cut.proofs.Rests.{by-rest}
 use Rattle.cut.proofs.Stay.{Starts, starts, sound-starts}
 use Rattle.cut.proofs.Collapse.{collapse-levels}
 use Rattle.cut.proofs.CutTree.{occ-reverse, length-reverse, root-rest, gone-entries, gone-nodes, cut-well, cut-entries, cut-occ, cut-count}
-use Rattle.cut.proofs.PruneTree.{Left, emptyTree, empty-nodes, prune-reset, prune-tree}
+use Rattle.cut.proofs.PruneTree.{Left, empty-nodes, prune-reset, prune-tree}
 use Rattle.cut.proofs.Check.{run, Used, used-run, no-way}
 use Rattle.cut.proofs.Copies.{CopiesLaw, copies-sound}
 
@@ -58,7 +58,7 @@ some-levels h g r _ (starts a es p) = refl
 not-none : {A : Type 0} (r : ℕ) (es : List Entry) → Starts r es → es ≡ [] → A
 not-none r _ (starts a es p) q = let n : _≡_ {A = ℕ} 0 1 = cc in absurd (omega arith)
 
-module _ (C P : ℕ) (w : List ℕ) (h r : ℕ) (ns : List ℕ) (formed : Formed C P w h r ns) (e k l : ℕ) where
+module _ (C : Shape) (P : ℕ) (w : List ℕ) (h r : ℕ) (ns : List ℕ) (formed : Formed C P w h r ns) (e k l : ℕ) where
   abbrev former : Level (suc h)
   former = treeOf C w h
 
@@ -69,7 +69,7 @@ module _ (C P : ℕ) (w : List ℕ) (h r : ℕ) (ns : List ℕ) (formed : Formed
   module _ (v : List ℕ) (ms : List ℕ) (t : Tree) (left : Left C P w v (root w) ms ns t) (whole : Whole C P (t .0) (t .1) e)
       (split : (m : ℕ) → occ m (nodes (suc h) former) ≡ occ m ms + occ m (treeNodes t)) (count : length (nodes (suc h) former) ≡ length ms + length (treeNodes t))
       (lower : t .0 ≤ h) (ends : treeEntries t e Open ≡ drop k es) (enough : k ≤ length es) (levels : l ≡ collapsedLevels h (t .0) (treeEntries t e Open))
-      (reset : treeEntries t e Open ≡ [] → t .0 ≡ 0) where
+      (reset : treeEntries t e Open ≡ [] → t .0 ≡ 0) (made : t ≡ leftTree (root w) h e (cut (suc h) e former r)) where
     same-root : root v ≡ root w
     same-root = left .words 2 (omega arith) (omega arith) (omega arith)
 
@@ -107,12 +107,13 @@ module _ (C P : ℕ) (w : List ℕ) (h r : ℕ) (ns : List ℕ) (formed : Formed
           chain-is = refl;
           more = longer;
           same-root = same-root;
+          tree-left = ap (λ (y : Level (suc (t .0))). let x : Tree = (t .0, y) in x) tree-is ∙ made;
           lower = lower;
           levels = rw tree-is levels;
           reset = λ p. reset (rw tree-is at p);
         }
 
-module _ (C P : ℕ) (w : List ℕ) (h r : ℕ) (ns : List ℕ) (formed : Formed C P w h r ns) (well : Well C P (suc h) (treeOf C w h) r Open)
+module _ (C : Shape) (P : ℕ) (w : List ℕ) (h r : ℕ) (ns : List ℕ) (formed : Formed C P w h r ns) (well : Well C P (suc h) (treeOf C w h) r Open)
     (e : ℕ) (ids : List ℕ) (below : r < e) (some : eqb (length ids) 0 ≡ false) where
   abbrev before : Level (suc h)
   before = treeOf C w h
@@ -167,29 +168,30 @@ module _ (C P : ℕ) (w : List ℕ) (h r : ℕ) (ns : List ℕ) (formed : Formed
       inside : root w < P
       inside = formed-root C P w h r ns formed .inside
 
-      no-entries : treeEntries (emptyTree (root w) e) e Open ≡ []
+      no-entries : treeEntries (resetTree (root w) e) e Open ≡ []
       unfolding entries overPairs
       no-entries = refl
 
-      one-node : treeNodes (emptyTree (root w) e) ≡ root w ∷ []
+      one-node : treeNodes (resetTree (root w) e) ≡ root w ∷ []
       one-node = empty-nodes C P w (formed .header) (root w) e inside
 
-      no-levels : 0 ≡ collapsedLevels h 0 (treeEntries (emptyTree (root w) e) e Open)
+      no-levels : 0 ≡ collapsedLevels h 0 (treeEntries (resetTree (root w) e) e Open)
       unfolding collapsedLevels
       no-levels = rw no-entries
 
       accepts-none : Accepts C P w h r ns e ids outcome
+      unfolding leftTree
       accepts-none =
           rw emptied-is (record {
             f = length (goneNodes h e before);
             l = 0;
             answer = refl;
-            pruned = pruned-as C P w h r ns formed e (length ids) 0 (pruneTree C w (root w) h e before []) (goneNodes h e before) (emptyTree (root w) e)
+            pruned = pruned-as C P w h r ns formed e (length ids) 0 (pruneTree C w (root w) h e before []) (goneNodes h e before) (resetTree (root w) e)
                 (prune-reset C P w (formed .header) h (root w) e r Open well below (used .lands) ns (formed .cover) (formed .chain) none)
                 (blank (record { leaf = refl; inside = inside; high = refl; none = refl; begin = refl; low = low; ends = refl }))
                 (λ m. ap (occ m) parts ∙ occ-append m (goneNodes h e before) (root w ∷ []) ∙ rw one-node)
                 (ap length parts ∙ length-append (goneNodes h e before) (root w ∷ []) ∙ rw one-node)
-                (omega arith) (no-entries ∙ sym (gone-entries C P h e before r Open well below (used .lands) none) ∙ used .cut) (used .enough) no-levels (λ p. refl);
+                (omega arith) (no-entries ∙ sym (gone-entries C P h e before r Open well below (used .lands) none) ∙ used .cut) (used .enough) no-levels (λ p. refl) (rw none);
           })
 
     -- y stays
@@ -238,6 +240,7 @@ module _ (C P : ℕ) (w : List ℕ) (h r : ℕ) (ns : List ℕ) (formed : Formed
       levels-are = omega (arith, some-levels h (new .0) e (treeEntries new e Open) new-starts, collapse-levels (root w) h y)
 
       accepts-some : Accepts C P w h r ns e ids outcome
+      unfolding leftTree
       accepts-some =
           rw cut-is (record {
             f = length freeing;
@@ -245,7 +248,7 @@ module _ (C P : ℕ) (w : List ℕ) (h r : ℕ) (ns : List ℕ) (formed : Formed
             answer = refl;
             pruned = pruned-as C P w h r ns formed e (length ids) (length (copiedNodes h y)) (pruneTree C w (root w) h e before (copiedNodes h y)) freeing new
                 (prune-tree C P w (formed .header) h (root w) e r Open well below (used .lands) ns (formed .cover) (formed .chain) y stay)
-                (held new-well) split counts (omega (arith, collapse-levels (root w) h y)) new-entries (used .enough) levels-are (λ p. not-none e (treeEntries new e Open) new-starts p);
+                (held new-well) split counts (omega (arith, collapse-levels (root w) h y)) new-entries (used .enough) levels-are (λ p. not-none e (treeEntries new e Open) new-starts p) (rw stay);
           })
 
     -- the law

@@ -7,7 +7,7 @@ use native.Mathlib.Omega.{arith}
 use lib.ListN.{length}
 use lib.Dec.{ltb, eqb, ltb→lt, eqb→eq}
 use borrow.Author.Tests.{ltb-true}
-use Rattle.model.specs.Words.{height, count, start, end, row, child, rowPlace, childPlace, Header}
+use Rattle.model.specs.Words.{Shape, height, count, start, end, row, child, rowPlace, childPlace, Header}
 use Rattle.model.specs.Tree.{Limit, Open, Level, pairsFrom, nodeWith, level, next, last, allPairs, AllSound}
 use Rattle.model.specs.Reading.{occ, inPairs, nodes}
 use Rattle.model.specs.Cut.{Rest, gone, stays, ifGone, keep, cutPairs, trim, cut, trimsPairs, trims}
@@ -21,7 +21,7 @@ use Rattle.cut.proofs.Rests.{upTo, withPairs, by-rest, gone-not, stays-
 use Rattle.cut.proofs.Trim.{trimmed-header, trimmed-node, trimmed-with, trimmed-few}
 
 -- the first pair that stays, among those from i on
-pub record SpotAt {K : Type 0} (C : ℕ) (w : List ℕ) (g : ℕ → K) (n e : ℕ) (f : K → ℕ → Rest K) (i c : ℕ) : Type 0 where
+pub record SpotAt {K : Type 0} (C : Shape) (w : List ℕ) (g : ℕ → K) (n e : ℕ) (f : K → ℕ → Rest K) (i c : ℕ) : Type 0 where
   pub place : ℕ
   pub what : K
   pub low : i ≤ place
@@ -30,7 +30,7 @@ pub record SpotAt {K : Type 0} (C : ℕ) (w : List ℕ) (g : ℕ → K) (n e : �
   pub cuts : cutPairs e f (pairsFrom C w g n i c) ≡ (upTo e (row C w n place), what) ∷ pairsFrom C w g n (place + 1) (i + c - (place + 1))
   pub trimmed-in : (tr : K → ℕ → List (ℕ × ℕ)) → trimsPairs f tr (pairsFrom C w g n i c) ≡ tr (g (child C w n place)) (row C w n place)
 
-module _ {K : Type 0} (C : ℕ) (w : List ℕ) (g : ℕ → K) (n e : ℕ) (f : K → ℕ → Rest K) where
+module _ {K : Type 0} (C : Shape) (w : List ℕ) (g : ℕ → K) (n e : ℕ) (f : K → ℕ → Rest K) where
   pub spot : {A : Type 0} (i c : ℕ) → (cutPairs e f (pairsFrom C w g n i c) ≡ [] → A) → (SpotAt C w g n e f i c → A) → A
   unfolding pairsFrom cutPairs keep trimsPairs ifGone
   spot i zero no-one some-one = no-one refl
@@ -43,26 +43,26 @@ module _ {K : Type 0} (C : ℕ) (w : List ℕ) (g : ℕ → K) (n e : ℕ) (f : 
       some-one (record { place = i; what = y; low = omega arith; high = omega arith; is = p; cuts = rw (p, a); trimmed-in = λ tr. rw p }))
 
 -- the same words make the same node
-with-same : {K : Type 0} (C : ℕ) (w v : List ℕ) (f : ℕ → K) (n : ℕ) → Same C w v n → count C w n ≤ C → nodeWith C w f n ≡ nodeWith C v f n
+with-same : {K : Type 0} (C : Shape) (w v : List ℕ) (f : ℕ → K) (n : ℕ) → Same C w v n → count C w n ≤ C .cap → nodeWith C w f n ≡ nodeWith C v f n
 with-same C w v f n s l =
     rw (s 0 (omega arith), s 2 (omega arith), s 3 (omega arith), same-pairs C w v n s f f 0 (count C w n) (omega arith) (λ j a b. refl), s 1 (omega arith))
 
-pub record Trimmed (C P h n : ℕ) (v v₂ : List ℕ) (y : Level h) : Type 0 where
+pub record Trimmed (C : Shape) (P h n : ℕ) (v v₂ : List ℕ) (y : Level h) : Type 0 where
   pub tree : level C v₂ h n ≡ y
-  pub header : Header C P v₂
+  pub header : Header (C .cap) P v₂
   pub beside : (m : ℕ) → occ m (nodes h y) ≡ 0 → Same C v v₂ m
 
-module _ (C P e : ℕ) (w : List ℕ) where
+module _ (C : Shape) (P e : ℕ) (w : List ℕ) where
   -- what is asked: on words v that agree with w on the nodes that stay
   unfoldable pub PathLaw : ℕ → Type 0
-  PathLaw h = (n r : ℕ) (b : Limit) (v : List ℕ) (y : Level h) → Header C P v → Narrow C h (level C w h n) → cut h e (level C w h n) r ≡ stays y → AllSound C P h y (upTo e r) b
+  PathLaw h = (n r : ℕ) (b : Limit) (v : List ℕ) (y : Level h) → Header (C .cap) P v → Narrow C h (level C w h n) → cut h e (level C w h n) r ≡ stays y → AllSound C P h y (upTo e r) b
       → ((m : ℕ) → occ m (nodes h y) ≤ 1) → ((m : ℕ) → 0 < occ m (nodes h y) → Same C w v m) → Trimmed C P h n v (trimAll C v e (trims h e (level C w h n) r)) y
 
   -- node n, which loses its first j entries, x being what is left of what entry j leads to
   abbrev trimmedNode : (h n j : ℕ) → Level h → Level (suc h)
   trimmedNode h n j x = record { number = n; height = height C w n; start = e; end = end C w n; pairs = (upTo e (row C w n j), x) ∷ pairsFrom C w (level C w h) n (j + 1) (count C w n - (j + 1)) }
 
-  module _ (h n j : ℕ) (x : Level h) (b : Limit) (v : List ℕ) (hd : Header C P v) (few : count C w n ≤ C) (lose : j < count C w n)
+  module _ (h n j : ℕ) (x : Level h) (b : Limit) (v : List ℕ) (hd : Header (C .cap) P v) (few : count C w n ≤ C .cap) (lose : j < count C w n)
       (sounds : AllSound C P (suc h) (trimmedNode h n j x) e b) (one : (m : ℕ) → occ m (nodes (suc h) (trimmedNode h n j x)) ≤ 1)
       (same : (m : ℕ) → 0 < occ m (nodes (suc h) (trimmedNode h n j x)) → Same C w v m) where
     others : List (ℕ × Level h)
@@ -80,7 +80,7 @@ module _ (C P e : ℕ) (w : List ℕ) where
     same-n : Same C w v n
     same-n = same n (omega (arith, parts n, occ-self n))
 
-    few-v : count C v n ≤ C
+    few-v : count C v n ≤ C .cap
     few-v = omega (arith, same-n 1 (omega arith))
 
     lose-v : j < count C v n
@@ -128,10 +128,10 @@ module _ (C P e : ℕ) (w : List ℕ) where
                   ← same-n 0 (omega arith),
                   ← same-n 3 (omega arith),
                   ← same-n 1 (omega arith),
-                  ← same-n (childPlace C j) (omega arith),
+                  ← same-n (childPlace j) (omega arith),
                   t .tree,
                   first-row,
-                  pairs-same C w v (level C w h) (level C v₂ h) n n (j + 1) (count C w n - (j + 1)) (λ a l u. (same-n (rowPlace C a) (omega arith), same-n (childPlace C a) (omega arith), other a l u)),
+                  pairs-same C w v (level C w h) (level C v₂ h) n n (j + 1) (count C w n - (j + 1)) (λ a l u. (same-n (rowPlace a) (omega arith), same-n (childPlace a) (omega arith), other a l u)),
                 );
             header = t .header;
             beside = λ m z i q. to-v₁ m (λ d. absurd (omega (arith, parts m, subst (λ (k : ℕ). occ m (k ∷ []) ≡ 1) d (occ-self m)))) i q ∙ t .beside m (omega (arith, parts m)) i q;
@@ -165,11 +165,11 @@ module _ (C P e : ℕ) (w : List ℕ) where
   unfolding Narrow level
   child-narrow h n j a l = all-child C w (level C w h) n (λ x r b. Narrow C h x) 0 (count C w n) Open (a .1) j (omega arith) (omega arith) .1
 
-  node-few : (h n : ℕ) → Narrow C (suc h) (level C w (suc h) n) → count C w n ≤ C
+  node-few : (h n : ℕ) → Narrow C (suc h) (level C w (suc h) n) → count C w n ≤ C .cap
   unfolding Narrow level
   node-few h n a = omega (arith, a .0, length-pairs C w (level C w h) n 0 (count C w n))
 
-  at-spot : (h : ℕ) → PathLaw h → (n r : ℕ) (b : Limit) (v : List ℕ) (y : Level (suc h)) → Header C P v → Narrow C (suc h) (level C w (suc h) n) → r < e
+  at-spot : (h : ℕ) → PathLaw h → (n r : ℕ) (b : Limit) (v : List ℕ) (y : Level (suc h)) → Header (C .cap) P v → Narrow C (suc h) (level C w (suc h) n) → r < e
       → trim e (level C w (suc h) n) (cutPairs e (cut h e) (pairsFrom C w (level C w h) n 0 (count C w n))) ≡ stays y → AllSound C P (suc h) y e b
       → ((m : ℕ) → occ m (nodes (suc h) y) ≤ 1) → ((m : ℕ) → 0 < occ m (nodes (suc h) y) → Same C w v m)
       → SpotAt C w (level C w h) n e (cut h e) 0 (count C w n)

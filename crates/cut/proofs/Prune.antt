@@ -7,7 +7,7 @@ use native.Mathlib.Omega.{arith}
 use lib.ListN.{length, drop}
 use lib.Dec.{leb, eqb}
 use borrow.Author.Tests.{eqb-true, leb-false}
-use Rattle.model.specs.Words.{root}
+use Rattle.model.specs.Words.{Shape, root}
 use Rattle.model.specs.Tree.{Open, Level, last, overPairs}
 use Rattle.model.specs.Reading.{Entry, entries}
 use Rattle.model.specs.Refusals.{result, refused, Outcome}
@@ -34,10 +34,10 @@ unfolding entries overPairs
 blank-entries P h t r b = ap (λ (ps : List (ℕ × Level h)). overPairs (entries h) ps (last h (t .end) Open)) (b .none)
 
 -- a store that holds ledger l
-module _ (C P : ℕ) (w : List ℕ) (h : ℕ) (ns : List ℕ) (l : Ledger) (formed : Formed C P w h (l .start) ns)
+module _ (C : Shape) (P : ℕ) (w : List ℕ) (h : ℕ) (ns : List ℕ) (l : Ledger) (formed : Formed C P w h (l .start) ns)
     (holds : entries (suc h) (treeOf C w h) (l .start) Open ≡ entriesFrom (l .start) (l .ranges)) (s e : ℕ) (ids : List ℕ) where
   abbrev call : Outcome
-  call = pruneCheckpointPrefix w s e ids
+  call = pruneCheckpointPrefix (C .slots) w s e ids
 
   abbrev r : ℕ
   r = l .start
@@ -92,15 +92,15 @@ module _ (C P : ℕ) (w : List ℕ) (h : ℕ) (ns : List ℕ) (l : Ledger) (form
       (λ u. rw (t, u) (asks ∙ rw (t, u))))
 
   -- the answer is the ledger's
-  pub prune-answer : Follows C P w h (l .start) ns e ids (ledgerCut l s e ids) (pruneCheckpointPrefix w s e ids)
+  pub prune-answer : Follows C P w h (l .start) ns e ids (ledgerCut l s e ids) (pruneCheckpointPrefix (C .slots) w s e ids)
   prune-answer = answer-by (formed .whole)
 
 -- every well-formed store holds a ledger
-whole-ranges : (C P h : ℕ) (t : Level (suc h)) (r : ℕ) → Whole C P h t r → (gs : List Range) × (entries (suc h) t r Open ≡ entriesFrom r gs)
+whole-ranges : (C : Shape) (P h : ℕ) (t : Level (suc h)) (r : ℕ) → Whole C P h t r → (gs : List Range) × (entries (suc h) t r Open ≡ entriesFrom r gs)
 whole-ranges C P h t r (blank b) = ([], blank-entries P h t r b ∙ sym (no-entries r))
 whole-ranges C P h t r (held g) = let k = sound-linked C P h t r Open (well-sound C P (suc h) t r Open g) in run-ranges r (entries (suc h) t r Open) (k .end) (k .run)
 
-module _ (C P : ℕ) (w : List ℕ) (h r : ℕ) (ns : List ℕ) (formed : Formed C P w h r ns) where
+module _ (C : Shape) (P : ℕ) (w : List ℕ) (h r : ℕ) (ns : List ℕ) (formed : Formed C P w h r ns) where
   pub formed-ranges : (gs : List Range) × (entries (suc h) (treeOf C w h) r Open ≡ entriesFrom r gs)
   formed-ranges = whole-ranges C P h (treeOf C w h) r (formed .whole)
 
@@ -131,17 +131,17 @@ module _ (C P : ℕ) (w : List ℕ) (h r : ℕ) (ns : List ℕ) (formed : Formed
         let c : x .l ≡ l = cc in
         (sym a, rw (← a, ← b, ← c) (x .pruned))
 
-    follows : Follows C P w h r ns e ids (ledgerCut ledger s e ids) (pruneCheckpointPrefix w s e ids)
+    follows : Follows C P w h r ns e ids (ledgerCut ledger s e ids) (pruneCheckpointPrefix (C .slots) w s e ids)
     follows = prune-answer C P w h ns ledger formed (formed-ranges .1) s e ids
 
     -- an accepted prune
-    pub prune-keeps : (k f l : ℕ) → pruneCheckpointPrefix w s e ids .answer ≡ result (k ∷ f ∷ l ∷ [])
-        → (k ≡ length ids) × Pruned C P w h r ns e k f l (pruneCheckpointPrefix w s e ids .words)
-    prune-keeps k f l p = told-as (pruneCheckpointPrefix w s e ids) k f l p (accepted-by e ids (ledgerCut ledger s e ids) (pruneCheckpointPrefix w s e ids) (k ∷ f ∷ l ∷ []) follows p)
+    pub prune-keeps : (k f l : ℕ) → pruneCheckpointPrefix (C .slots) w s e ids .answer ≡ result (k ∷ f ∷ l ∷ [])
+        → (k ≡ length ids) × Pruned C P w h r ns e k f l (pruneCheckpointPrefix (C .slots) w s e ids .words)
+    prune-keeps k f l p = told-as (pruneCheckpointPrefix (C .slots) w s e ids) k f l p (accepted-by e ids (ledgerCut ledger s e ids) (pruneCheckpointPrefix (C .slots) w s e ids) (k ∷ f ∷ l ∷ []) follows p)
 
     -- a refused one changes nothing, and only 7 to 11 are refused: neither an unsound node nor the free count
-    pub prune-refusals : (a d : ℕ) → pruneCheckpointPrefix w s e ids .answer ≡ refused a d → (7 ≤ a) × (a ≤ 11) × (pruneCheckpointPrefix w s e ids .words ≡ w)
+    pub prune-refusals : (a d : ℕ) → pruneCheckpointPrefix (C .slots) w s e ids .answer ≡ refused a d → (7 ≤ a) × (a ≤ 11) × (pruneCheckpointPrefix (C .slots) w s e ids .words ≡ w)
     prune-refusals a d p =
-        let q = refused-by e ids (ledgerCut ledger s e ids) (pruneCheckpointPrefix w s e ids) a d follows p in
+        let q = refused-by e ids (ledgerCut ledger s e ids) (pruneCheckpointPrefix (C .slots) w s e ids) a d follows p in
         let n = ledger-numbers ledger s e ids a d (q .0) in
         (n .0, n .1, q .1)

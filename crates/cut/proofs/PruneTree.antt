@@ -8,7 +8,7 @@ use native.Mathlib.Omega.{arith}
 use lib.ListN.{length}
 use lib.Dec.{ltb, ltb→lt}
 use borrow.Author.Tests.{ltb-true}
-use Rattle.model.specs.Words.{word, pick, freeHead, freeCount, put, height, count, start, end, Header, NONE, emptied, freed, freeAll}
+use Rattle.model.specs.Words.{Shape, word, pick, freeHead, freeCount, put, height, count, start, end, Header, NONE, emptied, freed, freeAll}
 use Rattle.model.specs.Tree.{Limit, Level, pairsFrom, level, allPairs, AllSound}
 use Rattle.model.specs.Reading.{entries, occ, inPairs, nodes}
 use Rattle.model.specs.WellFormed.{Chain}
@@ -21,7 +21,7 @@ use Rattle.model.proofs.Once.{own}
 use Rattle.model.proofs.Writes.{occ-cons, occ-here, occ-in, emptied-keeps, emptied-word, emptied-length, freed-length, free-all-length, free-all-keeps, free-all-word, free-all-count, chain-same, chain-freed}
 use Rattle.formed.specs.Well.{Well}
 use Rattle.formed.proofs.Clean.{well-sound, sound-narrow}
-use Rattle.cut.specs.Cutting.{Tree, treeNodes, goneNodes, collapse, copiedNodes, dropTo, Lands}
+use Rattle.cut.specs.Cutting.{Tree, treeNodes, goneNodes, collapse, copiedNodes, dropTo, Lands, resetTree}
 use Rattle.cut.proofs.Rests.{upTo, cut-number}
 use Rattle.cut.proofs.Trim.{trims-word}
 use Rattle.cut.proofs.Copy.{Collapsed, CopyLaw, copy-all, copies-word}
@@ -29,25 +29,25 @@ use Rattle.cut.proofs.Path.{Trimmed, PathLaw, path-trim}
 use Rattle.cut.proofs.CutTree.{occ-reverse, root-rest, gone-nodes, left-well, left-nodes, cut-well, cut-occ}
 
 -- freed nodes stand before the chain, the last one first
-pub chain-free-all : (C P : ℕ) (w : List ℕ) (ns l : List ℕ) → Header C P w → ((m : ℕ) → 0 < occ m ns → m < P) → ((m : ℕ) → occ m ns + occ m l ≤ 1) → Chain C P w (freeHead w) l
+pub chain-free-all : (C : Shape) (P : ℕ) (w : List ℕ) (ns l : List ℕ) → Header (C .cap) P w → ((m : ℕ) → 0 < occ m ns → m < P) → ((m : ℕ) → occ m ns + occ m l ≤ 1) → Chain C P w (freeHead w) l
     → Chain C P (freeAll C w ns) (freeHead (freeAll C w ns)) (reverse ns ++ l)
 unfolding freeAll
 chain-free-all C P w [] l hd a o c = c
 chain-free-all C P w (n ∷ ns) l hd a o c =
     let z : occ n l ≡ 0 = omega (arith, o n, occ-here n ns) in
     rw (reverse-cons n ns, append-assoc)
-    (chain-free-all C P (freed C w n) ns (n ∷ l) (header-at C P w (freed C w n) hd (freed-length C w n)) (λ m p. a m (occ-in m n ns p)) (λ m. omega (arith, o m, occ-cons m n l, occ-cons m n ns))
+    (chain-free-all C P (freed C w n) ns (n ∷ l) (header-at (C .cap) P w (freed C w n) hd (freed-length C w n)) (λ m p. a m (occ-in m n ns p)) (λ m. omega (arith, o m, occ-cons m n l, occ-cons m n ns))
     (chain-freed C P w hd n (a n (occ-here n ns)) l z c))
 
 -- what is known of the words v after a prune that frees ms, with n as the root
-pub record Left (C P : ℕ) (w v : List ℕ) (n : ℕ) (ms ns : List ℕ) (t : Tree) : Type 0 where
+pub record Left (C : Shape) (P : ℕ) (w v : List ℕ) (n : ℕ) (ms ns : List ℕ) (t : Tree) : Type 0 where
   pub tree : level C v (suc (t .0)) n ≡ t .1
-  pub header : Header C P v
+  pub header : Header (C .cap) P v
   pub words : (i : ℕ) → i < 8 → i ≢ 3 → i ≢ 4 → word v i ≡ word w i
   pub chain : Chain C P v (freeHead v) (reverse ms ++ ns)
   pub free : freeCount v ≡ freeCount w + length ms
 
-module _ (C P : ℕ) (w u : List ℕ) (n : ℕ) (ms ns : List ℕ) (t : Tree) (hd : Header C P u) (tree : level C u (suc (t .0)) n ≡ t .1) (narrow : Narrow C (suc (t .0)) (t .1))
+module _ (C : Shape) (P : ℕ) (w u : List ℕ) (n : ℕ) (ms ns : List ℕ) (t : Tree) (hd : Header (C .cap) P u) (tree : level C u (suc (t .0)) n ≡ t .1) (narrow : Narrow C (suc (t .0)) (t .1))
     (words : (i : ℕ) → i < 8 → word u i ≡ word w i) (same : (m : ℕ) → 0 < occ m ns → Same C w u m)
     (apart : (m : ℕ) → occ m ms + occ m ns + occ m (treeNodes t) ≤ 1) (inside : (m : ℕ) → 0 < occ m ms → m < P) (chain : Chain C P w (freeHead w) ns) where
   -- nodes ms, which are neither in the tree nor in the chain, are freed last
@@ -56,18 +56,14 @@ module _ (C P : ℕ) (w u : List ℕ) (n : ℕ) (ms ns : List ℕ) (t : Tree) (h
       let here : Chain C P u (freeHead u) ns = subst (λ (k : ℕ). Chain C P u k ns) (sym (words 3 (omega arith))) (chain-same C P w u ns (freeHead w) same chain) in
       record {
         tree = sym (kept C u (freeAll C u ms) (suc (t .0)) n (rw tree narrow) (λ m p. free-all-keeps C u ms m (omega (arith, apart m, ap (λ (x : Level (suc (t .0))). occ m (nodes (suc (t .0)) x)) tree)))) ∙ tree;
-        header = header-at C P u (freeAll C u ms) hd (free-all-length C u ms);
+        header = header-at (C .cap) P u (freeAll C u ms) hd (free-all-length C u ms);
         words = λ i l a b. free-all-word C u ms i l a b ∙ words i l;
         chain = chain-free-all C P u ms ns hd inside (λ m. omega (arith, apart m)) here;
         free = omega (arith, free-all-count C P u ms hd, words 4 (omega arith));
       }
 
--- an empty root leaf from row e on
-abbrev pub emptyTree : ℕ → ℕ → Tree
-emptyTree n e = (0, record { number = n; height = 0; start = e; end = NONE; pairs = [] })
-
-module _ (C P : ℕ) (w : List ℕ) (hd : Header C P w) (n e : ℕ) (inside : n < P) where
-  empty-root : level C (emptied C w n e) 1 n ≡ emptyTree n e .1
+module _ (C : Shape) (P : ℕ) (w : List ℕ) (hd : Header (C .cap) P w) (n e : ℕ) (inside : n < P) where
+  empty-root : level C (emptied C w n e) 1 n ≡ resetTree n e .1
   unfolding emptied level pairsFrom
   empty-root =
       let v₁ = put C w n 0 0 in
@@ -82,15 +78,15 @@ module _ (C P : ℕ) (w : List ℕ) (hd : Header C P w) (n e : ℕ) (inside : n 
       let d : end C (put C v₃ n 3 NONE) n ≡ NONE = put-same C P v₃ h₃ n 3 NONE inside (omega arith) in
       rw (a, b, c, d)
 
-  empty-narrow : Narrow C 1 (emptyTree n e .1)
+  empty-narrow : Narrow C 1 (resetTree n e .1)
   unfolding Narrow allPairs
   empty-narrow = (omega arith, tt)
 
-  pub empty-nodes : treeNodes (emptyTree n e) ≡ n ∷ []
+  pub empty-nodes : treeNodes (resetTree n e) ≡ n ∷ []
   unfolding nodes inPairs
   empty-nodes = refl
 
-module _ (C P : ℕ) (w : List ℕ) (hd : Header C P w) (h n e r : ℕ) (b : Limit) (well : Well C P (suc h) (level C w (suc h) n) r b) (below : r < e)
+module _ (C : Shape) (P : ℕ) (w : List ℕ) (hd : Header (C .cap) P w) (h n e r : ℕ) (b : Limit) (well : Well C P (suc h) (level C w (suc h) n) r b) (below : r < e)
     (lands : Lands e (dropTo e (entries (suc h) (level C w (suc h) n) r b)))
     (ns : List ℕ) (cover : (m : ℕ) → occ m (nodes (suc h) (level C w (suc h) n)) + occ m ns ≡ pick (ltb m P) 1 0) (chain : Chain C P w (freeHead w) ns) where
   abbrev former : Level (suc h)
@@ -115,12 +111,12 @@ module _ (C P : ℕ) (w : List ℕ) (hd : Header C P w) (h n e r : ℕ) (b : Lim
     parts m = ap (occ m) (gone-nodes C P h e former r b well below lands all) ∙ occ-append m (goneNodes h e former) (n ∷ [])
 
     -- the law where nothing is left
-    pub prune-reset : Left C P w (pruneTree C w n h e former []) n (goneNodes h e former) ns (emptyTree n e)
+    pub prune-reset : Left C P w (pruneTree C w n h e former []) n (goneNodes h e former) ns (resetTree n e)
     unfolding pruneTree ifGone gs
     prune-reset =
         rw (root-rest C P h e former r b well below lands, all)
-        (freed-last C P w (emptied C w n e) n gs ns (emptyTree n e)
-        (header-at C P w (emptied C w n e) hd (emptied-length C w n e)) (empty-root C P w hd n e inside) (empty-narrow C P w hd n e inside)
+        (freed-last C P w (emptied C w n e) n gs ns (resetTree n e)
+        (header-at (C .cap) P w (emptied C w n e) hd (emptied-length C w n e)) (empty-root C P w hd n e inside) (empty-narrow C P w hd n e inside)
         (emptied-word C w n e) (λ m p. emptied-keeps C w n e m (λ q. omega (arith, once-all m, parts m, subst (λ (k : ℕ). occ m (k ∷ []) ≡ 1) q (occ-self m))))
         (λ m. omega (arith, once-all m, parts m, ap (occ m) (empty-nodes C P w hd n e inside))) (λ m p. all-inside m (omega (arith, parts m))) chain)
 

@@ -6,6 +6,7 @@ use native.Mathlib.Omega.{arith}
 use lib.ListN.{length}
 use lib.Dec.{ltb}
 use borrow.Author.Tests.{le-ltb, ltb-false}
+use Rattle.model.specs.Words.{Shape}
 use Rattle.model.specs.Tree.{Limit, Level, next, last, overPairs, allPairs, AllSound}
 use Rattle.model.specs.Reading.{Entry, entries}
 use Rattle.model.specs.Cut.{Rest, gone, stays, keep, cutPairs, trim, cut}
@@ -26,7 +27,7 @@ pairs-start : {K : Type 0} (f : K → ℕ → Limit → List Entry) (Q : K → �
 unfolding overPairs allPairs
 pairs-start f Q p r _ b (begins x ps) g = starts-append r (f x r (next ps b)) (overPairs f ps b) (p x r (next ps b) (g .0))
 
-pub sound-starts : (C P h : ℕ) (t : Level h) (r : ℕ) (b : Limit) → AllSound C P h t r b → Starts r (entries h t r b)
+pub sound-starts : (C : Shape) (P h : ℕ) (t : Level h) (r : ℕ) (b : Limit) → AllSound C P h t r b → Starts r (entries h t r b)
 unfolding entries AllSound
 sound-starts C P zero x r b g = starts (record { low = r; high = b; page = x }) [] refl
 sound-starts C P (suc h) t r b g = pairs-start (entries h) (AllSound C P h) (sound-starts C P h) r (t .pairs) (last h (t .end) b) (sound-begins C h t r b (g .1)) (g .2)
@@ -99,7 +100,7 @@ trim-case h e t r b _ _ neither p = refl
 trim-case h e t r b _ _ (both k l a m) p = (p, some a m)
 
 -- the law
-pub rest-entries : (C P h e : ℕ) (t : Level h) (r : ℕ) (b : Limit) → AllSound C P h t r b → CutTo (entries h) e (cut h e t r) r b (dropTo e (entries h t r b))
+pub rest-entries : (C : Shape) (P h e : ℕ) (t : Level h) (r : ℕ) (b : Limit) → AllSound C P h t r b → CutTo (entries h) e (cut h e t r) r b (dropTo e (entries h t r b))
 unfolding cut entries CutTo AllSound Kept dropTo
 rest-entries C P zero e x r b g = by-test (ltb r e) (λ u. rw u refl) (λ u. rw (u, CutTo, u) (refl, some (record { low = r; high = b; page = x }) []))
 rest-entries C P (suc h) e t r b g =

@@ -4,10 +4,10 @@ use Prim.Native.Nat.{ℕ, zero, suc}
 use mathlib.Core.List.{List, [], _∷_}
 use mathlib.Core.Path.{_≡_}
 use lib.Dec.{ltb}
-use Rattle.model.specs.Words.{pick}
+use Rattle.model.specs.Words.{pick, NONE}
 use Rattle.model.specs.Tree.{Node, Limit, Level}
 use Rattle.model.specs.Reading.{Entry, entries, inPairs, nodes}
-use Rattle.model.specs.Cut.{cut, wentPairs, went}
+use Rattle.model.specs.Cut.{Rest, gone, stays, cut, wentPairs, went}
 
 -- a tree of any height
 abbrev pub Tree : Type 0
@@ -31,6 +31,10 @@ named n t = record { number = n; height = t .height; start = t .start; end = t .
 abbrev pub goneNodes : (h : ℕ) → ℕ → Level (suc h) → List ℕ
 goneNodes h e t = wentPairs (cut h e) (went h e) (t .pairs)
 
+-- "If nothing is left, the root is an empty leaf starting at the end": the root is node n
+abbrev pub resetTree : ℕ → ℕ → Tree
+resetTree n e = (0, record { number = n; height = 0; start = e; end = NONE; pairs = [] })
+
 -- f of the only pair, or a
 unfoldable pub onlyOr : {K A : Type 0} → (K → A) → A → List (ℕ × K) → A
 onlyOr f a [] = a
@@ -41,6 +45,11 @@ onlyOr f a (p ∷ q ∷ ps) = a
 unfoldable pub collapse : ℕ → (h : ℕ) → Level (suc h) → Tree
 collapse n zero t = (zero, named n t)
 collapse n (suc h) t = onlyOr (collapse n h) (suc h, named n t) (t .pairs)
+
+-- the tree that a cut at e leaves in node n, by what stays of the former one
+unfoldable pub leftTree : ℕ → (h : ℕ) → ℕ → Rest (Level (suc h)) → Tree
+leftTree n h e gone = resetTree n e
+leftTree n h e (stays t) = collapse n h t
 
 -- the nodes copied, the top first
 unfoldable pub copiedNodes : (h : ℕ) → Level (suc h) → List ℕ

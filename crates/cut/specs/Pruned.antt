@@ -3,8 +3,10 @@ use Prim.Native.Nat.{ℕ, suc, _+_, _-_, _≤_}
 use mathlib.Core.List.{List, [], _∷_, _++_, reverse}
 use mathlib.Core.Path.{_≡_}
 use lib.ListN.{length, drop}
-use Rattle.model.specs.Words.{root}
+use Rattle.model.specs.Words.{Shape, root}
 use Rattle.model.specs.Tree.{Open}
+use Rattle.model.specs.Cut.{cut}
+use Rattle.cut.specs.Cutting.{Tree, leftTree}
 use Rattle.model.specs.Reading.{Entry, entries, occ, nodes}
 use Rattle.model.specs.Refusals.{result, refused, Outcome}
 use Rattle.model.specs.Ledger.{Cut, refuses, leaves}
@@ -17,7 +19,7 @@ collapsedLevels h g [] = 0
 collapsedLevels h g (a ∷ es) = h - g
 
 -- v are the words, k, f and l the answer: "entries removed, nodes freed, levels collapsed"
-pub record Pruned (C P : ℕ) (w : List ℕ) (h r : ℕ) (ns : List ℕ) (e k f l : ℕ) (v : List ℕ) : Type 0 where
+pub record Pruned (C : Shape) (P : ℕ) (w : List ℕ) (h r : ℕ) (ns : List ℕ) (e k f l : ℕ) (v : List ℕ) : Type 0 where
   -- the new root's height, the nodes freed in their order, and all free nodes
   pub height : ℕ
   pub freed : List ℕ
@@ -32,19 +34,21 @@ pub record Pruned (C P : ℕ) (w : List ℕ) (h r : ℕ) (ns : List ℕ) (e k f 
   pub chain-is : chain ≡ reverse freed ++ ns
   pub more : length chain ≡ length ns + f
   pub same-root : root v ≡ root w
+  -- which tree is left
+  pub tree-left : (height, treeOf C v height) ≡ leftTree (root w) h e (cut (suc h) e (treeOf C w h) r)
   pub lower : height ≤ h
   pub reset : entries (suc height) (treeOf C v height) e Open ≡ [] → height ≡ 0
   pub levels : l ≡ collapsedLevels h height (entries (suc height) (treeOf C v height) e Open)
 
 -- the outcome of a prune that names ids and ends at e
-pub record Accepts (C P : ℕ) (w : List ℕ) (h r : ℕ) (ns : List ℕ) (e : ℕ) (ids : List ℕ) (o : Outcome) : Type 0 where
+pub record Accepts (C : Shape) (P : ℕ) (w : List ℕ) (h r : ℕ) (ns : List ℕ) (e : ℕ) (ids : List ℕ) (o : Outcome) : Type 0 where
   pub f : ℕ
   pub l : ℕ
   pub answer : o .answer ≡ result (length ids ∷ f ∷ l ∷ [])
   pub pruned : Pruned C P w h r ns e (length ids) f l (o .words)
 
 -- the outcome that a cut of the ledger asks for
-unfoldable pub Follows : (C P : ℕ) (w : List ℕ) (h r : ℕ) (ns : List ℕ) (e : ℕ) (ids : List ℕ) → Cut → Outcome → Type 0
+unfoldable pub Follows : (C : Shape) (P : ℕ) (w : List ℕ) (h r : ℕ) (ns : List ℕ) (e : ℕ) (ids : List ℕ) → Cut → Outcome → Type 0
 Follows C P w h r ns e ids (refuses a d) o = o ≡ record { answer = refused a d; words = w }
 Follows C P w h r ns e ids (leaves gs) o =
     (x : Accepts C P w h r ns e ids o) × (entries (suc (x .pruned .height)) (treeOf C (o .words) (x .pruned .height)) e Open ≡ entriesFrom e gs)

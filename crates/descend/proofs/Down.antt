@@ -9,11 +9,11 @@ use borrow.Author.Tests.{lt-ltb, le-ltb, ltb-true}
 use mathlib.Core.Logic.{_⊎_, inl, inr}
 use Rattle.model.proofs.Tests.{by-test}
 use Rattle.model.specs.Tree as Tree
-use Rattle.model.specs.Words.{pick, part, height, count, start, row, child, maxHeight}
+use Rattle.model.specs.Words.{Shape, pick, part, height, count, start, row, child, maxHeight}
 use Rattle.model.specs.Tree.{Limit, Open, nodeAt, sound, emptyRoot}
 use Rattle.model.specs.Reading.{Reached, unsound, leaf, nextRow, checked, descend, rootLeaf}
 
-module _ (f : ℕ → ℕ) (C P : ℕ) (w : List ℕ) (m n r : ℕ) (b : Limit) where
+module _ (f : ℕ → ℕ) (C : Shape) (P : ℕ) (w : List ℕ) (m n r : ℕ) (b : Limit) where
   -- a number out of range; an unsound node
   pub far : (h : ℕ) → P ≤ n → descend f C P w h m n r b ≡ unsound m
   unfolding descend checked
@@ -35,7 +35,7 @@ module _ (f : ℕ → ℕ) (C P : ℕ) (w : List ℕ) (m n r : ℕ) (b : Limit) 
   down zero i z l s e = absurd (omega arith)
   down (suc h) i z l s e = let d : suc h - 1 ≡ h = omega arith in rw (lt-ltb n P l, s, e, d)
 
-module _ (f : ℕ → ℕ) (C P : ℕ) (w : List ℕ) (n : ℕ) where
+module _ (f : ℕ → ℕ) (C : Shape) (P : ℕ) (w : List ℕ) (n : ℕ) where
   pub root-empty : emptyRoot C w n ≡ true → rootLeaf f C P w n ≡ leaf n Open
   unfolding rootLeaf
   root-empty e = rw e
@@ -49,7 +49,7 @@ module _ (f : ℕ → ℕ) (C P : ℕ) (w : List ℕ) (n : ℕ) where
   root-path e h = rw (e, h)
 
 -- a leaf that is reached is in the pool and sound there
-module _ (f : ℕ → ℕ) (C P : ℕ) (w : List ℕ) (n : ℕ) (b : Limit) where
+module _ (f : ℕ → ℕ) (C : Shape) (P : ℕ) (w : List ℕ) (n : ℕ) (b : Limit) where
   pub record Sound : Type 0 where
     pub inside : n < P
     pub row : ℕ
@@ -86,6 +86,6 @@ module _ (f : ℕ → ℕ) (C P : ℕ) (w : List ℕ) (n : ℕ) (b : Limit) wher
       (λ u. not-leaf k (rw (t, u) at e)))
 
 -- after the last entry comes what comes after the node
-pub next-last : (C : ℕ) (w : List ℕ) (n i : ℕ) (b : Limit) → count C w n ≤ i + 1 → b ≡ nextRow C w n i b
+pub next-last : (C : Shape) (w : List ℕ) (n i : ℕ) (b : Limit) → count C w n ≤ i + 1 → b ≡ nextRow C w n i b
 unfolding nextRow
 next-last C w n i b h = rw (le-ltb (i + 1) (count C w n) h)

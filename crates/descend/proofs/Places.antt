@@ -8,7 +8,7 @@ use native.Mathlib.Omega.{arith}
 use native.Mathlib.Nat.{eq-or-lt-of-le}
 use lib.Dec.{T, leb, ltb}
 use borrow.Author.Tests.{lt-leb, leb-true, leb-false}
-use Rattle.model.specs.Words.{part, row, child}
+use Rattle.model.specs.Words.{Shape, part, row, child}
 use Rattle.model.specs.Tree.{pairsFrom, rising}
 use Rattle.model.specs.Reading.{lastNotAbove}
 use Rattle.model.proofs.Tests.{by-test, holds, is-true}
@@ -17,7 +17,7 @@ use Rattle.model.proofs.Place.{risen, last-at}
 use Rattle.descend.specs.Place.{LiesIn}
 use Rattle.node.proofs.Rows.{yes, rest, rise-all}
 
-module _ (C : ℕ) (w : List ℕ) (n k : ℕ) (some : 1 ≤ k) (up : T (rising (pairsFrom C w (λ (x : ℕ). x) n 0 k))) where
+module _ (C : Shape) (w : List ℕ) (n k : ℕ) (some : 1 ≤ k) (up : T (rising (pairsFrom C w (λ (x : ℕ). x) n 0 k))) where
   pub rise : (a c : ℕ) → a < c → c < k → row C w n a < row C w n c
   rise a c l m =
       let e : 0 + 1 + (k - 1) ≡ k = omega arith in
@@ -48,7 +48,7 @@ module _ (C : ℕ) (w : List ℕ) (n k : ℕ) (some : 1 ≤ k) (up : T (rising (
         ⊎-elim (λ (e : high ≡ m). subst (λ (x : ℕ). q < row C w n x) e h) (λ (g : high < m). omega (arith, h, rise high m g b)) (eq-or-lt-of-le l)
 
 -- it is one of the places
-pub place-below : (C : ℕ) (w : List ℕ) (n q k : ℕ) → 1 ≤ k → lastNotAbove C w q n k < k
+pub place-below : (C : Shape) (w : List ℕ) (n q k : ℕ) → 1 ≤ k → lastNotAbove C w q n k < k
 unfolding lastNotAbove
 place-below C w n q zero h = absurd (omega arith)
 place-below C w n q (suc zero) h = by-test (leb (row C w n 0) q) (λ t. rw t (omega arith)) (λ t. rw t (omega arith))
@@ -56,7 +56,7 @@ place-below C w n q (suc (suc k)) h =
     by-test (leb (row C w n (suc k)) q) (λ t. rw t (omega arith)) (λ t. rw t (omega (arith, place-below C w n q (suc k) (omega arith))))
 
 -- a row that is not above q is at the place or before it
-pub place-from : (C : ℕ) (w : List ℕ) (n q k i : ℕ) → i < k → row C w n i ≤ q → i ≤ lastNotAbove C w q n k
+pub place-from : (C : Shape) (w : List ℕ) (n q k i : ℕ) → i < k → row C w n i ≤ q → i ≤ lastNotAbove C w q n k
 unfolding lastNotAbove
 place-from C w n q zero i l h = absurd (omega arith)
 place-from C w n q (suc k) i l h =
@@ -65,7 +65,7 @@ place-from C w n q (suc k) i l h =
     (λ t. rw t (⊎-elim (λ (e : i ≡ k). absurd (omega (arith, leb-false (row C w n k) q t, subst (λ (x : ℕ). row C w n x ≤ q) e h))) (λ (g : i < k). place-from C w n q k i g h) (eq-or-lt-of-le (omega arith))))
 
 -- where every row from i on is above q, the place is before i
-pub place-before : (C : ℕ) (w : List ℕ) (n q k i : ℕ) → 1 ≤ i → ((m : ℕ) → i ≤ m → m < k → q < row C w n m) → lastNotAbove C w q n k < i
+pub place-before : (C : Shape) (w : List ℕ) (n q k i : ℕ) → 1 ≤ i → ((m : ℕ) → i ≤ m → m < k → q < row C w n m) → lastNotAbove C w q n k < i
 unfolding lastNotAbove
 place-before C w n q zero i s f = omega arith
 place-before C w n q (suc k) i s f =
@@ -78,11 +78,11 @@ place-before C w n q (suc k) i s f =
 -- The part that the place lies in ------------------------------------------------------------------------
 
 -- after the rows before i: it lies behind the last one that is not above q, or i is the next to look at
-abbrev pub Looked : ℕ → List ℕ → ℕ → ℕ → ℕ → ℕ → ℕ → ℕ → Type 0
+abbrev pub Looked : Shape → List ℕ → ℕ → ℕ → ℕ → ℕ → ℕ → ℕ → Type 0
 Looked C w q n k step place i =
     (place < k) × (place ≤ lastNotAbove C w q n k) × ((lastNotAbove C w q n k < place + step) ⊎ (place + step ≡ i))
 
-module _ (C : ℕ) (w : List ℕ) (n k : ℕ) (some : 1 ≤ k) (up : T (rising (pairsFrom C w (λ (x : ℕ). x) n 0 k))) (q step place i : ℕ) (h : Looked C w q n k step place i) where
+module _ (C : Shape) (w : List ℕ) (n k : ℕ) (some : 1 ≤ k) (up : T (rising (pairsFrom C w (λ (x : ℕ). x) n 0 k))) (q step place i : ℕ) (h : Looked C w q n k step place i) where
   pub moved : i < k → row C w n i ≤ q → Looked C w q n k step i (i + step)
   moved l r = (l, place-from C w n q k i l r, inr refl)
 
@@ -100,9 +100,9 @@ module _ (C : ℕ) (w : List ℕ) (n k : ℕ) (some : 1 ≤ k) (up : T (rising (
       record { from = h .1; before = ⊎-elim (λ (g : lastNotAbove C w q n k < place + step). g) (λ (e : place + step ≡ i). omega arith) (h .2) }
 
 -- it lies among all entries
-pub lies-in-all : (C : ℕ) (w : List ℕ) (n q k : ℕ) → 1 ≤ k → LiesIn C w q n k 0 k
+pub lies-in-all : (C : Shape) (w : List ℕ) (n q k : ℕ) → 1 ≤ k → LiesIn C w q n k 0 k
 lies-in-all C w n q k h = record { from = omega arith; before = omega (arith, place-below C w n q k h) }
 
 -- a part that it lies in begins at an entry
-pub begins : (C : ℕ) (w : List ℕ) (n q k low width : ℕ) → 1 ≤ k → LiesIn C w q n k low width → low < k
+pub begins : (C : Shape) (w : List ℕ) (n q k low width : ℕ) → 1 ≤ k → LiesIn C w q n k low width → low < k
 begins C w n q k low width h p = omega (arith, p .from, place-below C w n q k h)

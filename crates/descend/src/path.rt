@@ -3,10 +3,10 @@
 ghost use mathlib.Core.Path.{_≡_};
 ghost use mathlib.Core.Bool.{true};
 ghost use Prim.Native.Nat.{ℕ, _+_, _-_, _≤_, _<_};
-ghost use Rattle.model.specs.Tree.{Open, nodeAt, sound};
+ghost use Rattle.model.specs.Tree.{nodeAt, sound};
 ghost use Rattle.model.specs.Reading.{descend, nextRow, rootLeaf};
 ghost use Rattle.model.specs.Words.{count};
-ghost use Rattle.node.specs.Layout.{Fits};
+ghost use Rattle.node.specs.Layout.{Fits, shapeOf};
 ghost use Rattle.node.specs.Test.{limitOf};
 ghost use Rattle.descend.specs.Reached.{chooser, reachedOf};
 use crate::place;
@@ -46,10 +46,10 @@ fn choose(
     toward: Toward,
 ) -> Chosen
     requires { ⌜ Fits l (now s) ⌝ }
-    requires { ⌜ (n .0 < l .pool) × (sound (l .capacity) height (nodeAt (l .capacity) (now s) (n .0)) (row .0) (limitOf next) ≡ true) ⌝ }
-    ensures is { λ r. ⌜ r .index ≡ chooser (l .capacity) (now (s .entry)) toward (n .0) ⌝ }
-    ensures below { λ r. ⌜ r .index < count (l .capacity) (now (s .entry)) (n .0) ⌝ }
-    ensures next { λ r. ⌜ limitOf (r .next) ≡ nextRow (l .capacity) (now (s .entry)) (n .0) (r .index) (limitOf next) ⌝ }
+    requires { ⌜ (n .0 < l .pool) × (sound (shapeOf l) height (nodeAt (shapeOf l) (now s) (n .0)) (row .0) (limitOf next) ≡ true) ⌝ }
+    ensures is { λ r. ⌜ r .index ≡ chooser (shapeOf l) (now (s .entry)) toward (n .0) ⌝ }
+    ensures below { λ r. ⌜ r .index < count (shapeOf l) (now (s .entry)) (n .0) ⌝ }
+    ensures next { λ r. ⌜ limitOf (r .next) ≡ nextRow (shapeOf l) (now (s .entry)) (n .0) (r .index) (limitOf next) ⌝ }
 {
     let count = l.part(s, n, 1);
     match toward {
@@ -66,23 +66,25 @@ fn choose(
     }
 }
 
-// From node root of this height, which no entry leads to.
-fn find_below(
+// From a node of this height, which its holder leads to by an entry of this row, and with what is next for it.
+pub fn find_below(
     l: Layout,
     s: &[u64],
-    root: NodeNo,
+    holder: NodeNo,
+    node: NodeNo,
     height: u64,
     row: RowID,
+    beyond: Limit,
     toward: Toward,
 ) -> Reached
     requires { ⌜ Fits l (now s) ⌝ }
-    ensures { λ r. ⌜ reachedOf r ≡ descend (chooser (l .capacity) (now (s .entry)) toward) (l .capacity) (l .pool) (now (s .entry)) height (root .0) (root .0) (row .0) Open ⌝ }
+    ensures { λ r. ⌜ reachedOf r ≡ descend (chooser (shapeOf l) (now (s .entry)) toward) (shapeOf l) (l .pool) (now (s .entry)) height (holder .0) (node .0) (row .0) (limitOf beyond) ⌝ }
 {
-    let mut parent = root;
-    let mut n = root;
+    let mut parent = holder;
+    let mut n = node;
     let mut h = height;
     let mut r = row;
-    let mut next = Limit::Open;
+    let mut next = beyond;
     while 0 < h {
         if l.pool <= n.0 {
             return Reached::Unsound(parent);
@@ -108,11 +110,11 @@ fn find_below(
     Reached::Leaf(n, next)
 }
 
-// From the root of an open store.
+// From the root of an open store, which is its own holder: no entry leads to it.
 pub fn find_leaf(l: Layout, s: &[u64], root: NodeNo, toward: Toward) -> Reached
     requires { ⌜ Fits l (now s) ⌝ }
     requires { ⌜ root .0 < l .pool ⌝ }
-    ensures { λ r. ⌜ reachedOf r ≡ rootLeaf (chooser (l .capacity) (now (s .entry)) toward) (l .capacity) (l .pool) (now (s .entry)) (root .0) ⌝ }
+    ensures { λ r. ⌜ reachedOf r ≡ rootLeaf (chooser (shapeOf l) (now (s .entry)) toward) (shapeOf l) (l .pool) (now (s .entry)) (root .0) ⌝ }
 {
     let empty = test::is_empty_root(l, s, root);
     if empty {
@@ -122,5 +124,14 @@ pub fn find_leaf(l: Layout, s: &[u64], root: NodeNo, toward: Toward) -> Reached
     if !h.is_in_height() {
         return Reached::Unsound(root);
     }
-    find_below(l, s, root, h.height, h.start_row_id, toward)
+    find_below(
+        l,
+        s,
+        root,
+        root,
+        h.height,
+        h.start_row_id,
+        Limit::Open,
+        toward,
+    )
 }

@@ -5,7 +5,7 @@ ghost use Prim.Native.Nat.{ℕ, _+_, _≤_, _<_, min};
 ghost use lib.Dec.{T};
 ghost use Rattle.model.specs.Tree.{pairsFrom, rising};
 ghost use Rattle.model.specs.Reading.{lastNotAbove};
-ghost use Rattle.node.specs.Layout.{Fits};
+ghost use Rattle.node.specs.Layout.{Fits, shapeOf};
 ghost use Rattle.descend.specs.Place.{LiesIn};
 use model::id::NodeNo;
 use model::id::RowID;
@@ -36,10 +36,10 @@ fn narrow(
     step: u64,
 ) -> u64
     requires { ⌜ Fits l (now s) ⌝ }
-    requires { ⌜ (n .0 < l .pool) × (count ≤ l .capacity) × T (rising (pairsFrom (l .capacity) (now s) (λ (x : ℕ). x) (n .0) 0 count)) ⌝ }
+    requires { ⌜ (n .0 < l .pool) × (count ≤ l .capacity) × T (rising (pairsFrom (shapeOf l) (now s) (λ (x : ℕ). x) (n .0) 0 count)) ⌝ }
     requires { ⌜ (1 ≤ step) × (step ≤ 4096) × (width ≤ 4096) × (low < count) ⌝ }
-    requires { ⌜ LiesIn (l .capacity) (now s) (q .0) (n .0) count low width ⌝ }
-    ensures { λ r. ⌜ LiesIn (l .capacity) (now (s .entry)) (q .0) (n .0) count r step ⌝ }
+    requires { ⌜ LiesIn (shapeOf l) (now s) (q .0) (n .0) count low width ⌝ }
+    ensures { λ r. ⌜ LiesIn (shapeOf l) (now (s .entry)) (q .0) (n .0) count r step ⌝ }
 {
     let end = part_end(low, width, count);
     let mut place = low;
@@ -56,8 +56,8 @@ fn narrow(
 // The last entry of node n whose row is not above q; 0 where there is none.
 pub fn place_of(l: Layout, s: &[u64], n: NodeNo, count: u64, q: RowID) -> u64
     requires { ⌜ Fits l (now s) ⌝ }
-    requires { ⌜ (n .0 < l .pool) × (1 ≤ count) × (count ≤ l .capacity) × T (rising (pairsFrom (l .capacity) (now s) (λ (x : ℕ). x) (n .0) 0 count)) ⌝ }
-    ensures { λ r. ⌜ r ≡ lastNotAbove (l .capacity) (now (s .entry)) (q .0) (n .0) count ⌝ }
+    requires { ⌜ (n .0 < l .pool) × (1 ≤ count) × (count ≤ l .capacity) × T (rising (pairsFrom (shapeOf l) (now s) (λ (x : ℕ). x) (n .0) 0 count)) ⌝ }
+    ensures { λ r. ⌜ r ≡ lastNotAbove (shapeOf l) (now (s .entry)) (q .0) (n .0) count ⌝ }
 {
     if count <= 16 {
         return narrow(l, s, n, count, q, 0, count, 1);

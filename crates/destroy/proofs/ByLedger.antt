@@ -7,7 +7,7 @@ use lib.ListN.{length, set, drop, length-set}
 use lib.Seq.{getD-set-same, getD-set-other}
 use lib.Dec.{ltb}
 use borrow.Author.Tests.{le-leb, le-ltb, ltb-true, ltb-false}
-use Rattle.model.specs.Words.{fill, word, capacity, pool, root, freeHead, freeCount, height, freeAll, Header}
+use Rattle.model.specs.Words.{storeShape, Shape, lent, fill, word, capacity, pool, root, freeHead, freeCount, height, freeAll, Header}
 use Rattle.model.specs.Reading.{clear, Entry, pageIds, occ, rootEntries, rootNodes}
 use Rattle.model.specs.Refusals.{Answer, result}
 use Rattle.model.specs.WellFormed.{Chain, WellFormed}
@@ -48,9 +48,9 @@ pages-length (g ∷ gs) = ap suc (pages-length gs)
 
 -- The words afterwards ------------------------------------------------------------------------------------
 
-module _ (w : List ℕ) (F : WellFormed w) where
-  abbrev C : ℕ
-  C = capacity w
+module _ (w : List ℕ) (F : WellFormed lent w) where
+  abbrev C : Shape
+  C = storeShape lent w
 
   abbrev P : ℕ
   P = pool w
@@ -61,7 +61,7 @@ module _ (w : List ℕ) (F : WellFormed w) where
   abbrev u : List ℕ
   u = freeAll C w ns
 
-  header : Header C P w
+  header : Header (C .cap) P w
   unfolding WellFormed
   header = F .fits
 
@@ -92,28 +92,28 @@ module _ (w : List ℕ) (F : WellFormed w) where
   word-after : (i : ℕ) → (i ≡ 2 → ⊥) → word (set u 2 P) i ≡ word u i
   word-after i d = getD-set-other u 2 i P 0 d
 
-  module _ (l : Ledger) (H : Holds w l) (v : ℕ) (x : List ℕ) (above : AtOrAbove v (ledgerWalk l)) (enough : length (l .ranges) ≤ length x) where
+  module _ (l : Ledger) (H : Holds lent w l) (v : ℕ) (x : List ℕ) (above : AtOrAbove v (ledgerWalk l)) (enough : length (l .ranges) ≤ length x) where
     es-are : rootEntries C w (root w) ≡ entriesFrom (l .start) (l .ranges)
     es-are = H .entries
 
     many : length (rootEntries C w (root w)) ≡ length (l .ranges)
     many = ap length es-are ∙ from-length (l .start) (l .ranges)
 
-    done : destroy w v x ≡ record { answer = result (length ns ∷ length (rootEntries C w (root w)) ∷ []); words = releasedWords C P w ns; list = fill x 0 (pageIds (rootEntries C w (root w))) }
+    done : destroy lent w v x ≡ record { answer = result (length ns ∷ length (rootEntries C w (root w)) ∷ []); words = releasedWords C P w ns; list = fill x 0 (pageIds (rootEntries C w (root w))) }
     unfolding destroy WellFormed ledgerWalk
     done =
-        goes-on w F (λ (a : Answer). let r : Released = record { answer = a; words = w; list = x } in r) _
+        goes-on lent w F (λ (a : Answer). let r : Released = record { answer = a; words = w; list = x } in r) _
         ∙ rw (
           sound-root C P w (root w) (F .sound),
           ap (firstLow v) es-are ∙ none-low v (l .start) (l .ranges) above,
           le-leb (length (rootEntries C w (root w))) (length x) (omega (arith, many)),
-          le-leb (freeCount w + length ns) P (omega (arith, sum w F)),
+          le-leb (freeCount w + length ns) P (omega (arith, sum lent w F)),
         )
 
     ids : pageIds (rootEntries C w (root w)) ≡ pagesIn (l .ranges)
     ids = ap (λ (es : List Entry). pageIds es) es-are ∙ ids-are (l .start) (l .ranges)
 
-    of-formed : Releases w l x (destroy w v x)
+    of-formed : Releases w l x (destroy lent w v x)
     unfolding releasedWords
     of-formed =
         rw done
@@ -126,7 +126,7 @@ module _ (w : List ℕ) (F : WellFormed w) where
           linked =
               subst (λ (k : ℕ). Chain C P (set u 2 P) k (reverse ns ++ old)) (sym (word-after 3 (λ e. omega arith)))
               (chain-same C P u (set u 2 P) (reverse ns ++ old) (freeHead u) (λ m p. set-keeps C u 2 P m (omega arith)) chained);
-          free = word-after 4 (λ e. omega arith) ∙ free-all-count C P w ns header ∙ omega (arith, sum w F);
+          free = word-after 4 (λ e. omega arith) ∙ free-all-count C P w ns header ∙ omega (arith, sum lent w F);
           long = long (reverse ns ++ old) P (λ m p. omega (arith, occ-all m, none-out m p)) (λ m p. occ-all m ∙ each-once m p);
           once = λ m p. occ-all m ∙ each-once m p;
           closed =
@@ -138,5 +138,5 @@ module _ (w : List ℕ) (F : WellFormed w) where
         })
 
 -- the law
-pub releases : (w : List ℕ) (l : Ledger) → Holds w l → (v : ℕ) (x : List ℕ) → AtOrAbove v (ledgerWalk l) → length (l .ranges) ≤ length x → Releases w l x (destroy w v x)
+pub releases : (w : List ℕ) (l : Ledger) → Holds lent w l → (v : ℕ) (x : List ℕ) → AtOrAbove v (ledgerWalk l) → length (l .ranges) ≤ length x → Releases w l x (destroy lent w v x)
 releases w l H v x above enough = of-formed w (H .formed) l H v x above enough

@@ -6,7 +6,7 @@ use mathlib.Core.Path.{_≡_, ap, _∙_}
 use native.Mathlib.Omega.{arith}
 use lib.ListN.{length}
 use borrow.Author.Tests.{le-leb}
-use Rattle.model.specs.Words.{capacity, pool, root, freeCount, height, start, maxHeight}
+use Rattle.model.specs.Words.{storeShape, Shape, lent, pool, root, freeCount, height, start, maxHeight}
 use Rattle.model.specs.Tree.{Open, sound, rootSound, level, AllSound}
 use Rattle.model.specs.Reading.{Entry, rootEntries, rootNodes}
 use Rattle.model.specs.Refusals.{Answer, result, refused, Outcome}
@@ -25,9 +25,9 @@ use Rattle.cut.proofs.Stay.{Starts, starts, sound-starts}
 some-entries : (r : ℕ) (es : List Entry) → Starts r es → 0 < length es
 some-entries r _ (starts a es e) = omega arith
 
-module _ (w : List ℕ) (F : WellFormed w) where
-  abbrev C : ℕ
-  C = capacity w
+module _ (w : List ℕ) (F : WellFormed lent w) where
+  abbrev C : Shape
+  C = storeShape lent w
 
   abbrev P : ℕ
   P = pool w
@@ -42,41 +42,41 @@ module _ (w : List ℕ) (F : WellFormed w) where
   unfolding WellFormed
   root-is = F .sound
 
-  accepts-empty : EmptyRoot C w n → destroyEmpty w ≡ record { answer = result (1 ∷ 0 ∷ []); words = releasedWords C P w (rootNodes C w n) }
+  accepts-empty : EmptyRoot C w n → destroyEmpty lent w ≡ record { answer = result (1 ∷ 0 ∷ []); words = releasedWords C P w (rootNodes C w n) }
   unfolding destroyEmpty rootSound
   accepts-empty e =
       let one = empty-nodes C w (height C w n) n e in
-      goes-on w F refuses _
-      ∙ rw (is-empty C w n e, le-leb (freeCount w + 1) P (omega (arith, sum w F, ap length one)), one)
+      goes-on lent w F refuses _
+      ∙ rw (is-empty C w n e, le-leb (freeCount w + 1) P (omega (arith, sum lent w F, ap length one)), one)
 
-  refuses-filled : height C w n ≤ maxHeight → AllSound C P (suc (height C w n)) (level C w (suc (height C w n)) n) (start C w n) Open → destroyEmpty w ≡ refuses (refused 12 0)
+  refuses-filled : height C w n ≤ maxHeight → AllSound C P (suc (height C w n)) (level C w (suc (height C w n)) n) (start C w n) Open → destroyEmpty lent w ≡ refuses (refused 12 0)
   unfolding destroyEmpty rootSound AllSound level
   refuses-filled u g =
       let h = height C w n in
-      goes-on w F refuses _
+      goes-on lent w F refuses _
       ∙ rw (not-empty C P w h n (start C w n) Open g, le-leb h maxHeight u, ← sound-at (level C w h) C w h n (start C w n) Open, is-true (sound C h (level C w (suc h) n) (start C w n) Open) (g .1))
 
-  module _ (l : Ledger) (H : Holds w l) where
+  module _ (l : Ledger) (H : Holds lent w l) where
     many : length (rootEntries C w n) ≡ length (l .ranges)
     many = ap length (H .entries) ∙ from-length (l .start) (l .ranges)
 
-    accepted : length (l .ranges) ≡ 0 → destroyEmpty w ≡ record { answer = result (1 ∷ 0 ∷ []); words = releasedWords C P w (rootNodes C w n) }
+    accepted : length (l .ranges) ≡ 0 → destroyEmpty lent w ≡ record { answer = result (1 ∷ 0 ∷ []); words = releasedWords C P w (rootNodes C w n) }
     accepted z = go root-is
       where
-        go : SoundRoot C P w (height C w n) n → destroyEmpty w ≡ record { answer = result (1 ∷ 0 ∷ []); words = releasedWords C P w (rootNodes C w n) }
+        go : SoundRoot C P w (height C w n) n → destroyEmpty lent w ≡ record { answer = result (1 ∷ 0 ∷ []); words = releasedWords C P w (rootNodes C w n) }
         go (emptyTree e) = accepts-empty e
         go (soundTree u g) = absurd (omega (arith, many, z, some-entries (start C w n) (rootEntries C w n) (sound-starts C P (suc (height C w n)) (level C w (suc (height C w n)) n) (start C w n) Open g)))
 
-    refused-when-filled : 0 < length (l .ranges) → destroyEmpty w ≡ refuses (refused 12 0)
+    refused-when-filled : 0 < length (l .ranges) → destroyEmpty lent w ≡ refuses (refused 12 0)
     refused-when-filled z = go root-is
       where
-        go : SoundRoot C P w (height C w n) n → destroyEmpty w ≡ refuses (refused 12 0)
+        go : SoundRoot C P w (height C w n) n → destroyEmpty lent w ≡ refuses (refused 12 0)
         go (emptyTree e) = absurd (omega (arith, many, z, ap length (empty-entries C w (height C w n) n e (start C w n) Open)))
         go (soundTree u g) = refuses-filled u g
 
-module _ (w : List ℕ) (l : Ledger) (H : Holds w l) where
-  pub empty-released : length (l .ranges) ≡ 0 → destroyEmpty w ≡ record { answer = result (1 ∷ 0 ∷ []); words = releasedWords (capacity w) (pool w) w (rootNodes (capacity w) w (root w)) }
+module _ (w : List ℕ) (l : Ledger) (H : Holds lent w l) where
+  pub empty-released : length (l .ranges) ≡ 0 → destroyEmpty lent w ≡ record { answer = result (1 ∷ 0 ∷ []); words = releasedWords (storeShape lent w) (pool w) w (rootNodes (storeShape lent w) w (root w)) }
   empty-released z = accepted w (H .formed) l H z
 
-  pub filled-refused : 0 < length (l .ranges) → destroyEmpty w ≡ record { answer = refused 12 0; words = w }
+  pub filled-refused : 0 < length (l .ranges) → destroyEmpty lent w ≡ record { answer = refused 12 0; words = w }
   filled-refused z = refused-when-filled w (H .formed) l H z

@@ -6,12 +6,12 @@ use native.Mathlib.Omega.{arith}
 use native.Mathlib.Nat.{sub-zero}
 use lib.ListN.{length, set, drop, length-set, length-append}
 use borrow.Author.Tests.{eq-eqb, ne-eqb}
-use Rattle.model.specs.Words.{fill, height, count, child}
+use Rattle.model.specs.Words.{Shape, fill, height, count, child}
 use Rattle.destroy.specs.Pages.{pagesFrom, pagesAt}
 
 -- The page ids of one node --------------------------------------------------------------------------------
 
-module _ (C : ℕ) (w : List ℕ) (n : ℕ) where
+module _ (C : Shape) (w : List ℕ) (n : ℕ) where
   pub pages-length : (i k : ℕ) → length (pagesFrom C w n i k) ≡ k
   unfolding pagesFrom
   pages-length i zero = refl

@@ -4,7 +4,7 @@ use mathlib.Core.List.{List, [], _∷_, _++_, append-assoc, append-nil}
 use mathlib.Core.Bool.{true, false}
 use mathlib.Core.Path.{_≡_, refl, sym, ap, ap₂, _∙_}
 use native.Mathlib.Omega.{arith}
-use Rattle.model.specs.Words.{height, count, start, end, row, child}
+use Rattle.model.specs.Words.{Shape, height, count, start, end, row, child}
 use Rattle.model.specs.Tree.{Limit, Open, pairsFrom, nodeAt, sound, level, next, last, overPairs, allPairs, AllSound}
 use Rattle.model.specs.Reading.{Visit, Enter, Leave, Bad, passes, visits, rootVisits, Entry, entries, pageIds, rootEntries}
 use Rattle.model.specs.Paths.{entered}
@@ -23,7 +23,7 @@ ids-append : (a b : List Entry) → pageIds (a ++ b) ≡ pageIds a ++ pageIds b
 ids-append [] b = refl
 ids-append (x ∷ a) b = ap (λ (l : List ℕ). x .page ∷ l) (ids-append a b)
 
-module _ (C P : ℕ) (w : List ℕ) where
+module _ (C : Shape) (P : ℕ) (w : List ℕ) where
   pages-append : (a b : List Visit) → pagesOf C w (a ++ b) ≡ pagesOf C w a ++ pagesOf C w b
   unfolding pagesOf
   pages-append [] b = refl

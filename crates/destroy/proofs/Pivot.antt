@@ -7,7 +7,7 @@ use native.Mathlib.Omega.{arith}
 use lib.ListN.{length}
 use lib.Dec.{ltb}
 use borrow.Author.Tests.{lt-ltb, le-ltb, ltb-false}
-use Rattle.model.specs.Words.{pick, height, start}
+use Rattle.model.specs.Words.{Shape, pick, height, start}
 use Rattle.model.specs.Tree.{Open, level}
 use Rattle.model.specs.Reading.{Entry, rootEntries, clear, at}
 use Rattle.model.specs.Release.{firstLow}
@@ -31,7 +31,7 @@ module _ (v : ℕ) where
       (λ t. rw (t, lt-ltb 0 (suc (length es)) (omega arith)))
       (λ t. rw (t, lt-ltb 0 (suc (length es)) (omega arith)) (run-clear x z es s (omega (arith, ltb-false r v t))))
 
-  module _ (C P : ℕ) (w : List ℕ) (n : ℕ) where
+  module _ (C : Shape) (P : ℕ) (w : List ℕ) (n : ℕ) where
     root-run : SoundRoot C P w (height C w n) n → (z : ℕ) × Run (start C w n) (rootEntries C w n) z
     root-run (emptyTree e) = (start C w n, rw (empty-entries C w (height C w n) n e (start C w n) Open) (none (start C w n)))
     root-run (soundTree l g) = let k = sound-linked C P (height C w n) (level C w (suc (height C w n)) n) (start C w n) Open g in (k .end, k .run)

@@ -8,7 +8,7 @@ use mathlib.Core.Logic.{_⊎_, inl, inr}
 use native.Mathlib.Omega.{arith}
 use lib.ListN.{length, length-append}
 use lib.Dec.{T}
-use Rattle.model.specs.Words.{fill, height, count, start, child, maxHeight, freeAll}
+use Rattle.model.specs.Words.{Shape, fill, height, count, start, child, maxHeight, freeAll}
 use Rattle.model.specs.Tree.{Open, AllSound}
 use Rattle.model.specs.Reading.{Visit, Leave, occ, Entry, pageIds, rootEntries, rootTree}
 use Rattle.model.specs.WellFormed.{SoundRoot, emptyTree, soundTree}
@@ -30,7 +30,7 @@ use Rattle.destroy.specs.Releasable.{Releasable}
 use Rattle.model.proofs.Fill.{fill-append, length-fill}
 use Rattle.destroy.proofs.Found.{rest-pages}
 
-pub ready : {C P : ℕ} {w : List ℕ} {n k : ℕ} → Releasable C P w n k → Ready C P w n k
+pub ready : {C : Shape} {P : ℕ} {w : List ℕ} {n k : ℕ} → Releasable C P w n k → Ready C P w n k
 ready {C} {P} {w} {n} {k} d = record { header = d .header; inside = d .inside; high = high (d .sound); sound = sound (d .sound); room = d .room }
   where
     high : SoundRoot C P w (height C w n) n → height C w n ≤ maxHeight
@@ -42,12 +42,12 @@ ready {C} {P} {w} {n} {k} d = record { header = d .header; inside = d .inside; h
     sound (soundTree l g) = inr g
 
 -- L is the list at the end; the next page goes to place a of list l
-pub record Taking (C P : ℕ) (w L : List ℕ) (p : Path) (l : List ℕ) (a : ℕ) : Type 0 where
+pub record Taking (C : Shape) (P : ℕ) (w L : List ℕ) (p : Path) (l : List ℕ) (a : ℕ) : Type 0 where
   pub walk : Freeable C P w 0 0 w p
   pub told : L ≡ fill l a (pagesOf C w (left false C P w p))
   pub room : a + length (pagesOf C w (left false C P w p)) ≤ length l
 
-pub record Takes (C P : ℕ) (w L : List ℕ) (p q : Path) (l : List ℕ) (a : ℕ) : Type 0 where
+pub record Takes (C : Shape) (P : ℕ) (w L : List ℕ) (p q : Path) (l : List ℕ) (a : ℕ) : Type 0 where
   pub taking : Taking C P w L q l a
   pub less : length (left false C P w q) < length (left false C P w p)
 
@@ -55,7 +55,7 @@ ids-length : (es : List Entry) → length (pageIds es) ≡ length es
 ids-length [] = refl
 ids-length (e ∷ es) = ap suc (ids-length es)
 
-module _ (C P : ℕ) (w : List ℕ) (n : ℕ) (l : List ℕ) (d : Releasable C P w n 0) where
+module _ (C : Shape) (P : ℕ) (w : List ℕ) (n : ℕ) (l : List ℕ) (d : Releasable C P w n 0) where
   walks : Freeable C P w 0 0 w (rooted n)
   walks = let f = start-freeing C P w n 0 (ready d) in subst (λ (v : List ℕ). Freeable C P v 0 0 w (rooted n)) (sym (enough f (omega arith))) f
 
@@ -71,7 +71,7 @@ module _ (C P : ℕ) (w : List ℕ) (n : ℕ) (l : List ℕ) (d : Releasable C P
         room = omega (arith, h, ap length all-pages, ids-length (rootEntries C w n));
       }
 
-module _ {C P : ℕ} {w L : List ℕ} {p : Path} {l : List ℕ} {a : ℕ} (t : Taking C P w L p l a) where
+module _ {C : Shape} {P : ℕ} {w L : List ℕ} {p : Path} {l : List ℕ} {a : ℕ} (t : Taking C P w L p l a) where
   pub all-taken : p .depth ≤ 0 → l ≡ L
   unfolding fill pagesOf
   all-taken z = sym (t .told ∙ ap (λ (vs : List Visit). fill l a (pagesOf C w vs)) (left-none false C P w p (omega arith)))

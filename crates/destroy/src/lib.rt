@@ -4,11 +4,11 @@ ghost use mathlib.Core.Path.{_≡_};
 ghost use mathlib.Core.Bool.{false};
 ghost use Prim.Native.Nat.{_+_, _-_, _≤_, _<_};
 ghost use lib.ListN.{length};
-ghost use Rattle.model.specs.Words.{count, fill};
+ghost use Rattle.model.specs.Words.{lent, count, fill};
 ghost use Rattle.model.specs.Reading.{pageIds, rootEntries, rootNodes, rootVisits};
 ghost use Rattle.model.specs.Release.{destroy, destroyEmpty, releasedWords};
 ghost use Rattle.model.specs.Refusals.{destroyed};
-ghost use Rattle.node.specs.Layout.{Fits, opened};
+ghost use Rattle.node.specs.Layout.{Fits, opened, shapeOf};
 ghost use Rattle.node.specs.declared.header.Opened.the-variants.{Open};
 ghost use Rattle.survey.specs.Tally.{noCounts, tally};
 ghost use Rattle.survey.specs.declared.Survey.the-variants.{Counted};
@@ -36,9 +36,9 @@ use walk::turn;
 // The page ids of a leaf go into the list from place at on; the place after them. A branch has none.
 fn copy_leaf(l: Layout, s: &[u64], n: NodeNo, pages: &mut [u64], at: usize) -> usize
     requires { ⌜ Fits l (now s) ⌝ }
-    requires { ⌜ (n .0 < l .pool) × (count (l .capacity) (now s) (n .0) ≤ l .capacity) × (at + length (pagesAt (l .capacity) (now s) (n .0)) ≤ length (now pages)) ⌝ }
-    ensures after { λ r. ⌜ r ≡ at + length (pagesAt (l .capacity) (now (s .entry)) (n .0)) ⌝ }
-    ensures list { λ r. ⌜ now (pages .exit) ≡ fill (now (pages .entry)) at (pagesAt (l .capacity) (now (s .entry)) (n .0)) ⌝ }
+    requires { ⌜ (n .0 < l .pool) × (count (shapeOf l) (now s) (n .0) ≤ l .capacity) × (at + length (pagesAt (shapeOf l) (now s) (n .0)) ≤ length (now pages)) ⌝ }
+    ensures after { λ r. ⌜ r ≡ at + length (pagesAt (shapeOf l) (now (s .entry)) (n .0)) ⌝ }
+    ensures list { λ r. ⌜ now (pages .exit) ≡ fill (now (pages .entry)) at (pagesAt (shapeOf l) (now (s .entry)) (n .0)) ⌝ }
 {
     let height = l.part(s, n, 0);
     if height != 0 {
@@ -58,9 +58,9 @@ fn copy_leaf(l: Layout, s: &[u64], n: NodeNo, pages: &mut [u64], at: usize) -> u
 
 // The page ids of a sound tree go into the list, left to right: those of a leaf as the walk leaves it.
 fn copy_tree(l: Layout, s: &[u64], root: NodeNo, pages: &mut [u64])
-    requires { ⌜ Releasable (l .capacity) (l .pool) (now s) (root .0) 0 ⌝ }
-    requires { ⌜ length (rootEntries (l .capacity) (now s) (root .0)) ≤ length (now pages) ⌝ }
-    ensures { λ _. ⌜ now (pages .exit) ≡ fill (now (pages .entry)) 0 (pageIds (rootEntries (l .capacity) (now (s .entry)) (root .0))) ⌝ }
+    requires { ⌜ Releasable (shapeOf l) (l .pool) (now s) (root .0) 0 ⌝ }
+    requires { ⌜ length (rootEntries (shapeOf l) (now s) (root .0)) ≤ length (now pages) ⌝ }
+    ensures { λ _. ⌜ now (pages .exit) ≡ fill (now (pages .entry)) 0 (pageIds (rootEntries (shapeOf l) (now (s .entry)) (root .0))) ⌝ }
 {
     let mut path = Path {
         positions: [Position {
@@ -97,10 +97,10 @@ fn copy_tree(l: Layout, s: &[u64], root: NodeNo, pages: &mut [u64])
 
 // A sound tree of k nodes: its page ids go into the list, its nodes into the chain, and the root word closes the store.
 fn destroy_tree(l: Layout, s: &mut [u64], root: NodeNo, k: u64, pages: &mut [u64])
-    requires { ⌜ Releasable (l .capacity) (l .pool) (now s) (root .0) k ⌝ }
-    requires { ⌜ (k ≡ length (rootNodes (l .capacity) (now s) (root .0))) × (length (rootEntries (l .capacity) (now s) (root .0)) ≤ length (now pages)) ⌝ }
-    ensures words { λ _. ⌜ now (s .exit) ≡ releasedWords (l .capacity) (l .pool) (now (s .entry)) (rootNodes (l .capacity) (now (s .entry)) (root .0)) ⌝ }
-    ensures list { λ _. ⌜ now (pages .exit) ≡ fill (now (pages .entry)) 0 (pageIds (rootEntries (l .capacity) (now (s .entry)) (root .0))) ⌝ }
+    requires { ⌜ Releasable (shapeOf l) (l .pool) (now s) (root .0) k ⌝ }
+    requires { ⌜ (k ≡ length (rootNodes (shapeOf l) (now s) (root .0))) × (length (rootEntries (shapeOf l) (now s) (root .0)) ≤ length (now pages)) ⌝ }
+    ensures words { λ _. ⌜ now (s .exit) ≡ releasedWords (shapeOf l) (l .pool) (now (s .entry)) (rootNodes (shapeOf l) (now (s .entry)) (root .0)) ⌝ }
+    ensures list { λ _. ⌜ now (pages .exit) ≡ fill (now (pages .entry)) 0 (pageIds (rootEntries (shapeOf l) (now (s .entry)) (root .0))) ⌝ }
 {
     copy_tree(l, &s[..], root, pages);
     reclaim::free_first(l, s, root, k);
@@ -111,7 +111,7 @@ fn destroy_tree(l: Layout, s: &mut [u64], root: NodeNo, k: u64, pages: &mut [u64
 fn starts_below(l: Layout, s: &[u64], root: NodeNo, entries: u64, pivot: RowID) -> bool
     requires { ⌜ Fits l (now s) ⌝ }
     requires { ⌜ root .0 < l .pool ⌝ }
-    ensures { λ r. ⌜ r ≡ startsBelow (l .capacity) (now (s .entry)) (root .0) entries (pivot .0) ⌝ }
+    ensures { λ r. ⌜ r ≡ startsBelow (shapeOf l) (now (s .entry)) (root .0) entries (pivot .0) ⌝ }
 {
     if entries == 0 {
         return false;
@@ -129,10 +129,10 @@ fn destroy_sound(
     pages: &mut [u64],
 ) -> Destroyed
     requires { ⌜ opened (now s) ≡ Open h ⌝ }
-    requires { ⌜ tally (h .layout .capacity) (now s) (rootVisits false (h .layout .capacity) (h .layout .pool) (now s) (h .root .0)) noCounts ≡ Counted counts ⌝ }
-    ensures answer { λ r. ⌜ destroyed r ≡ destroy (now (s .entry)) (pivot .0) (now (pages .entry)) .answer ⌝ }
-    ensures words { λ r. ⌜ now (s .exit) ≡ destroy (now (s .entry)) (pivot .0) (now (pages .entry)) .words ⌝ }
-    ensures list { λ r. ⌜ now (pages .exit) ≡ destroy (now (s .entry)) (pivot .0) (now (pages .entry)) .list ⌝ }
+    requires { ⌜ tally (shapeOf (h .layout)) (now s) (rootVisits false (shapeOf (h .layout)) (h .layout .pool) (now s) (h .root .0)) noCounts ≡ Counted counts ⌝ }
+    ensures answer { λ r. ⌜ destroyed r ≡ destroy lent (now (s .entry)) (pivot .0) (now (pages .entry)) .answer ⌝ }
+    ensures words { λ r. ⌜ now (s .exit) ≡ destroy lent (now (s .entry)) (pivot .0) (now (pages .entry)) .words ⌝ }
+    ensures list { λ r. ⌜ now (pages .exit) ≡ destroy lent (now (s .entry)) (pivot .0) (now (pages .entry)) .list ⌝ }
 {
     let l = h.layout;
     let root = h.root;
@@ -157,9 +157,9 @@ fn destroy_sound(
 
 // Releases a store whose rows are all at or above the pivot.
 pub fn destroy(s: &mut [u64], pivot: RowID, pages: &mut [u64]) -> Destroyed
-    ensures answer { λ r. ⌜ destroyed r ≡ destroy (now (s .entry)) (pivot .0) (now (pages .entry)) .answer ⌝ }
-    ensures words { λ r. ⌜ now (s .exit) ≡ destroy (now (s .entry)) (pivot .0) (now (pages .entry)) .words ⌝ }
-    ensures list { λ r. ⌜ now (pages .exit) ≡ destroy (now (s .entry)) (pivot .0) (now (pages .entry)) .list ⌝ }
+    ensures answer { λ r. ⌜ destroyed r ≡ destroy lent (now (s .entry)) (pivot .0) (now (pages .entry)) .answer ⌝ }
+    ensures words { λ r. ⌜ now (s .exit) ≡ destroy lent (now (s .entry)) (pivot .0) (now (pages .entry)) .words ⌝ }
+    ensures list { λ r. ⌜ now (pages .exit) ≡ destroy lent (now (s .entry)) (pivot .0) (now (pages .entry)) .list ⌝ }
 {
     match header::open(&s[..]) {
         Opened::Refused(r) => Destroyed::Refused(r),
@@ -173,8 +173,8 @@ pub fn destroy(s: &mut [u64], pivot: RowID, pages: &mut [u64]) -> Destroyed
 // The empty form, on an open store.
 fn destroy_empty_root(h: StoreHeader, s: &mut [u64]) -> Destroyed
     requires { ⌜ opened (now s) ≡ Open h ⌝ }
-    ensures answer { λ r. ⌜ destroyed r ≡ destroyEmpty (now (s .entry)) .answer ⌝ }
-    ensures words { λ r. ⌜ now (s .exit) ≡ destroyEmpty (now (s .entry)) .words ⌝ }
+    ensures answer { λ r. ⌜ destroyed r ≡ destroyEmpty lent (now (s .entry)) .answer ⌝ }
+    ensures words { λ r. ⌜ now (s .exit) ≡ destroyEmpty lent (now (s .entry)) .words ⌝ }
 {
     let l = h.layout;
     let root = h.root;
@@ -196,8 +196,8 @@ fn destroy_empty_root(h: StoreHeader, s: &mut [u64]) -> Destroyed
 
 // Releases an empty store.
 pub fn destroy_empty(s: &mut [u64]) -> Destroyed
-    ensures answer { λ r. ⌜ destroyed r ≡ destroyEmpty (now (s .entry)) .answer ⌝ }
-    ensures words { λ r. ⌜ now (s .exit) ≡ destroyEmpty (now (s .entry)) .words ⌝ }
+    ensures answer { λ r. ⌜ destroyed r ≡ destroyEmpty lent (now (s .entry)) .answer ⌝ }
+    ensures words { λ r. ⌜ now (s .exit) ≡ destroyEmpty lent (now (s .entry)) .words ⌝ }
 {
     match header::open(&s[..]) {
         Opened::Refused(r) => Destroyed::Refused(r),

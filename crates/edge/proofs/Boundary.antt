@@ -9,7 +9,7 @@ use native.Mathlib.Nat.{zero-add}
 use lib.ListN.{length}
 use lib.Dec.{T, leb, ltb, eqb, eqb→eq}
 use borrow.Author.Tests.{lt-ltb, le-ltb, ltb-true, ltb-false}
-use Rattle.model.specs.Words.{pick, part, height, count, start, end, row, child, rowLimit}
+use Rattle.model.specs.Words.{Shape, pick, part, height, count, start, end, row, child, rowLimit}
 use Rattle.model.specs.Tree.{Node, Limit, Open, Below, Level, pairsFrom, level, next, last, meets, endSound, sound, allPairs, Under, AllSound}
 use Rattle.model.specs.Reading.{inPairs, nodes}
 use Rattle.model.specs.Cut.{Rest, gone, stays, ifGone, keep, cutPairs, trim, cut, wentPairs, went, trimsPairs, trims}
@@ -28,7 +28,7 @@ use Rattle.prefix.proofs.Traces.{tall, behind-out}
 use Rattle.edge.specs.Edge.{Meets, at, firstPairs, firstNodes, Stays, trimsUp, goneUp, Cutting}
 use Rattle.edge.proofs.Goes.{gone-cons, cut-append, went-append, trims-append, pairs-split, all-went, pairs-go, goes}
 
-module _ (C P : ℕ) (w : List ℕ) where
+module _ (C : Shape) (P : ℕ) (w : List ℕ) where
   -- the rows of a node that passed its test
   pub record Rows (n : ℕ) : Type 0 where
     pub first : start C w n ≡ row C w n 0

@@ -7,7 +7,7 @@ use lib.ListN.{getD, set, length, length-set}
 use lib.Seq.{getD-set-same}
 use lib.Dec.{ltb}
 use borrow.Author.Tests.{lt-ltb}
-use Rattle.model.specs.Words.{pick, part, height, count, start, row, child}
+use Rattle.model.specs.Words.{Shape, pick, part, height, count, start, row, child}
 use Rattle.model.specs.Tree.{Below, level}
 use Rattle.model.specs.Cut.{cutPairs, cut, wentPairs, went}
 use Rattle.model.specs.Paths.{noPosition, stack, trail, lastOf, above}
@@ -23,7 +23,7 @@ use Rattle.edge.specs.Edge.{Meets, at, firstPairs, firstNodes, Stays, tr
 use Rattle.edge.proofs.Goes.{all-went}
 use Rattle.edge.proofs.Boundary.{stays-here, stays-root, cutting-up, cutting-leaf}
 
-module _ (C P : ℕ) (w : List ℕ) (e root : ℕ) where
+module _ (C : Shape) (P : ℕ) (w : List ℕ) (e root : ℕ) where
   height-fits : (h n k : ℕ) (up : List Position) → Cutting C w P e root h n k up → height C w n ≡ h
   unfolding Behind
   height-fits h n k up c = tall C P w h n up (c .behind .passed)

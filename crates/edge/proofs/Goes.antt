@@ -7,7 +7,7 @@ use native.Mathlib.Omega.{arith}
 use lib.ListN.{length}
 use lib.Dec.{ltb}
 use borrow.Author.Tests.{lt-ltb, le-ltb}
-use Rattle.model.specs.Words.{pick, part, count, row, child}
+use Rattle.model.specs.Words.{Shape, pick, part, count, row, child}
 use Rattle.model.specs.Tree.{Node, Limit, Open, Below, Level, pairsFrom, level, next, last, sound, allPairs, Under, AllSound}
 use Rattle.model.specs.Reading.{inPairs, nodes}
 use Rattle.model.specs.Cut.{Rest, gone, stays, ifGone, keep, cutPairs, trim, cut, wentPairs, went, trimsPairs, trims}
@@ -43,7 +43,7 @@ module _ {K : Type 0} (e : ℕ) (f : K → ℕ → Rest K) where
   trims-append g (p ∷ ps) qs z = let q = first-gone p ps z in rw (q .0) (trims-append g ps qs (q .1))
 
 -- pairs i, …, a + b of them
-pub pairs-split : {K : Type 0} (C : ℕ) (w : List ℕ) (f : ℕ → K) (n i a b : ℕ) → pairsFrom C w f n i (a + b) ≡ pairsFrom C w f n i a ++ pairsFrom C w f n (i + a) b
+pub pairs-split : {K : Type 0} (C : Shape) (w : List ℕ) (f : ℕ → K) (n i a b : ℕ) → pairsFrom C w f n i (a + b) ≡ pairsFrom C w f n i a ++ pairsFrom C w f n (i + a) b
 unfolding pairsFrom
 pairs-split C w f n i zero b = let z : 0 + b ≡ b = omega arith in let y : i + 0 ≡ i = omega arith in rw (z, y)
 pairs-split {K} C w f n i (suc a) b =
@@ -56,7 +56,7 @@ pub all-went : (h e : ℕ) (ps : List (ℕ × Level h)) → cutPairs e (cut h e)
 unfolding inPairs
 all-went h e ps z = sym (pairs-went e (cut h e) (went h e) (nodes h) (rest-nodes h e) ps ∙ rw z (append-nil (wentPairs (cut h e) (went h e) ps)))
 
-module _ (C P e : ℕ) where
+module _ (C : Shape) (P e : ℕ) where
   -- pairs that end at x, where each that ends at or below e goes
   pub pairs-go : (h : ℕ) → ((t : Level h) (r y : ℕ) → AllSound C P h t r (Below y) → y ≤ e → cut h e t r ≡ gone) → (x : ℕ) → x ≤ e → (ps : List (ℕ × Level h)) → allPairs (AllSound C P h) ps (Below x) → cutPairs e (cut h e) ps ≡ []
   unfolding allPairs cutPairs keep next Under

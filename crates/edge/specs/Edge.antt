@@ -3,7 +3,7 @@ use Prim.Native.Nat.{ℕ, zero, suc, _+_, _-_, _<_, _≤_}
 use mathlib.Core.List.{List, [], _∷_, _++_}
 use mathlib.Core.Path.{_≡_}
 use lib.ListN.{length}
-use Rattle.model.specs.Words.{part, height, count, start}
+use Rattle.model.specs.Words.{Shape, part, height, count, start}
 use Rattle.model.specs.Tree.{Limit, Open, Below, Level, level, pairsFrom}
 use Rattle.model.specs.Reading.{inPairs, nodes}
 use Rattle.model.specs.Cut.{cutPairs, cut, wentPairs, went, trims}
@@ -21,7 +21,7 @@ Meets (Below x) e = e ≡ x
 abbrev pub at : ℕ → ℕ → Position
 at n k = record { node = record { 0 = n }; index = k }
 
-module _ (C : ℕ) (w : List ℕ) where
+module _ (C : Shape) (w : List ℕ) where
   -- the pairs of node n of height h; its first k
   abbrev pub firstPairs : (h n k : ℕ) → List (ℕ × Level h)
   firstPairs h n k = pairsFrom C w (level C w h) n 0 k
@@ -57,20 +57,20 @@ module _ (C : ℕ) (w : List ℕ) where
     pub gone : cutPairs e (cut h e) (firstPairs h n k) ≡ []
 
 -- the nodes of an edge: trimmed ones, and those that go
-abbrev pub edgeTrims : ℕ → List ℕ → Path → List (ℕ × ℕ)
+abbrev pub edgeTrims : Shape → List ℕ → Path → List (ℕ × ℕ)
 edgeTrims C w p = trimsUp C w (above p) ((lastOf p .node .0, lastOf p .index) ∷ [])
 
-abbrev pub edgeGone : ℕ → List ℕ → Path → List ℕ
+abbrev pub edgeGone : Shape → List ℕ → Path → List ℕ
 edgeGone C w p = goneUp C w (height C w (lastOf p .node .0)) (above p) (firstNodes C w (height C w (lastOf p .node .0)) (lastOf p .node .0) (lastOf p .index))
 
 -- a path to a node of which entries go
-pub record Climbed (C P : ℕ) (w : List ℕ) (e root : ℕ) (p : Path) : Type 0 where
+pub record Climbed (C : Shape) (P : ℕ) (w : List ℕ) (e root : ℕ) (p : Path) : Type 0 where
   pub deep : 0 < p .depth
   pub low : p .depth ≤ 32
   pub long : length (p .positions) ≡ 32
   pub cutting : Cutting C w P e root (height C w (lastOf p .node .0)) (lastOf p .node .0) (lastOf p .index) (above p)
 
 -- all of them only where that is the root
-pub record Edged (C P : ℕ) (w : List ℕ) (e root : ℕ) (p : Path) : Type 0 where
+pub record Edged (C : Shape) (P : ℕ) (w : List ℕ) (e root : ℕ) (p : Path) : Type 0 where
   pub climbed : Climbed C P w e root p
   pub whole : count C w (lastOf p .node .0) ≤ lastOf p .index → p .depth ≡ 1

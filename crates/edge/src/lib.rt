@@ -3,7 +3,7 @@
 
 ghost use mathlib.Core.Path.{_≡_};
 ghost use Prim.Native.Nat.{ℕ, _+_, _-_, _≤_, _<_};
-ghost use Rattle.node.specs.Layout.{Fits};
+ghost use Rattle.node.specs.Layout.{Fits, shapeOf};
 ghost use Rattle.prefix.specs.Named.{Ended};
 ghost use Rattle.edge.specs.Edge.{Edged};
 use model::path::Path;
@@ -14,8 +14,8 @@ use node::layout::Layout;
 // A node all of whose entries go is left, except the root.
 pub fn find_edge(l: Layout, s: &[u64], path: Path, used: u64) -> Path
     requires { ⌜ Fits l (now s) ⌝ }
-    requires { ⌜ ((e : ℕ) × (root : ℕ) × Ended (l .capacity) (l .pool) (now s) e root path used) ⌝ }
-    ensures { λ r. ⌜ ((e root : ℕ) → Ended (l .capacity) (l .pool) (now (s .entry)) e root path used → Edged (l .capacity) (l .pool) (now (s .entry)) e root r) ⌝ }
+    requires { ⌜ ((e : ℕ) × (root : ℕ) × Ended (shapeOf l) (l .pool) (now s) e root path used) ⌝ }
+    ensures { λ r. ⌜ ((e root : ℕ) → Ended (shapeOf l) (l .pool) (now (s .entry)) e root path used → Edged (shapeOf l) (l .pool) (now (s .entry)) e root r) ⌝ }
 {
     let mut edge = path;
     let at = edge.depth - 1;

@@ -4,11 +4,12 @@ ghost use mathlib.Core.Path.{_≡_};
 ghost use mathlib.Core.Bool.{true};
 ghost use mathlib.Core.Logic.{_⊎_};
 ghost use Prim.Native.Nat.{ℕ, _<_};
+ghost use Rattle.model.specs.Words.{lent};
 ghost use Rattle.model.specs.Tree.{Limit, emptyRoot};
 ghost use Rattle.model.specs.Reading.{leaf};
 ghost use Rattle.model.specs.Lookup.{findInTree, foundIn, tryFindRow};
 ghost use Rattle.model.specs.Refusals.{location};
-ghost use Rattle.node.specs.Layout.{Fits};
+ghost use Rattle.node.specs.Layout.{Fits, shapeOf};
 ghost use Rattle.find.specs.Leaf.{IsLeaf};
 use descend::path;
 use descend::path::Reached;
@@ -26,8 +27,8 @@ use node::test;
 // In a leaf that was reached.
 fn find_in_leaf(l: Layout, s: &[u64], n: NodeNo, row: RowID) -> RowLocation
     requires { ⌜ Fits l (now s) ⌝ }
-    requires { ⌜ IsLeaf (l .capacity) (l .pool) (now s) (n .0) ⌝ }
-    ensures { λ r. ⌜ ((b : Limit) → location r ≡ foundIn (l .capacity) (now (s .entry)) (row .0) (leaf (n .0) b)) ⌝ }
+    requires { ⌜ IsLeaf (shapeOf l) (l .pool) (now s) (n .0) ⌝ }
+    ensures { λ r. ⌜ ((b : Limit) → location r ≡ foundIn (shapeOf l) (now (s .entry)) (row .0) (leaf (n .0) b)) ⌝ }
 {
     let count = l.part(s, n, 1);
     if count == 0 {
@@ -45,7 +46,7 @@ fn find_in_leaf(l: Layout, s: &[u64], n: NodeNo, row: RowID) -> RowLocation
 fn find_in_tree(l: Layout, s: &[u64], root: NodeNo, row: RowID) -> RowLocation
     requires { ⌜ Fits l (now s) ⌝ }
     requires { ⌜ root .0 < l .pool ⌝ }
-    ensures { λ r. ⌜ location r ≡ findInTree (l .capacity) (l .pool) (now (s .entry)) (root .0) (row .0) ⌝ }
+    ensures { λ r. ⌜ location r ≡ findInTree (shapeOf l) (l .pool) (now (s .entry)) (root .0) (row .0) ⌝ }
 {
     let start = l.part(s, root, 2);
     if row.0 < start {
@@ -63,7 +64,7 @@ fn find_in_tree(l: Layout, s: &[u64], root: NodeNo, row: RowID) -> RowLocation
 
 // The page that holds a row, or none.
 pub fn try_find_row(s: &[u64], row: RowID) -> RowLocation
-    ensures { λ r. ⌜ location r ≡ tryFindRow (now (s .entry)) (row .0) ⌝ }
+    ensures { λ r. ⌜ location r ≡ tryFindRow lent (now (s .entry)) (row .0) ⌝ }
 {
     match header::open(s) {
         Opened::Refused(r) => RowLocation::Refused(r),

@@ -7,7 +7,7 @@ use native.Mathlib.Omega.{arith}
 use lib.ListN.{length, length-append}
 use lib.Dec.{ltb, ltb→lt}
 use borrow.Author.Tests.{ltb-true, ltb-false, lt-ltb}
-use Rattle.model.specs.Words.{pick, capacity, pool, root, freeHead, height, count, start, rowLimit, maxHeight}
+use Rattle.model.specs.Words.{storeShape, Arrangement, shape, Shape, pick, capacity, pool, root, freeHead, height, count, start, rowLimit, maxHeight}
 use Rattle.model.specs.Tree.{Open, level, AllSound}
 use Rattle.model.specs.Reading.{occ, nodes}
 use Rattle.model.specs.WellFormed.{Chain, EndsFit, EmptyRoot, SoundRoot, emptyTree, soundTree, WellFormedAt, WellFormed}
@@ -24,7 +24,7 @@ use Rattle.formed.proofs.Rooted.{empty-pairs, empty-fits, root-once, ro
 
 -- Tree and chain hold each node at most once -------------------------------------------------------------
 
-module _ (C P : ℕ) (w : List ℕ) (h n : ℕ) (l : n < P) (s : SoundRoot C P w h n) (ns : List ℕ) (c : Chain C P w (freeHead w) ns) where
+module _ (C : Shape) (P : ℕ) (w : List ℕ) (h n : ℕ) (l : n < P) (s : SoundRoot C P w h n) (ns : List ℕ) (c : Chain C P w (freeHead w) ns) where
   abbrev ms : List ℕ
   ms = nodes (suc h) (level C w (suc h) n)
 
@@ -56,8 +56,8 @@ module _ (C P : ℕ) (w : List ℕ) (h n : ℕ) (l : n < P) (s : SoundRoot C P w
 
 -- From 01's words ----------------------------------------------------------------------------------------
 
-module _ (C P : ℕ) (w : List ℕ) (h : ℕ) where
-  pub formed-at : capacity w ≡ C → pool w ≡ P → h ≡ height C w (root w) → (F : WellFormedAt C P w h (root w)) → Formed C P w h (start C w (root w)) (F .chain)
+module _ (C : Shape) (P : ℕ) (w : List ℕ) (h : ℕ) where
+  pub formed-at : capacity w ≡ C .cap → pool w ≡ P → h ≡ height C w (root w) → (F : WellFormedAt C P w h (root w)) → Formed C P w h (start C w (root w)) (F .chain)
   unfolding level
   formed-at c p q F =
       record {
@@ -84,13 +84,13 @@ module _ (C P : ℕ) (w : List ℕ) (h : ℕ) where
       high (emptyTree e) = omega (arith, q, e .leaf)
       high (soundTree l g) = l
 
-pub formed-of : (w : List ℕ) → WellFormed w → (ns : List ℕ) × Formed (capacity w) (pool w) w (height (capacity w) w (root w)) (start (capacity w) w (root w)) ns
+pub formed-of : (L : Arrangement) (w : List ℕ) → WellFormed L w → (ns : List ℕ) × Formed (storeShape L w) (pool w) w (height (storeShape L w) w (root w)) (start (storeShape L w) w (root w)) ns
 unfolding WellFormed
-formed-of w F = (F .chain, formed-at (capacity w) (pool w) w (height (capacity w) w (root w)) refl refl refl F)
+formed-of L w F = (F .chain, formed-at (storeShape L w) (pool w) w (height (storeShape L w) w (root w)) refl refl refl F)
 
 -- And back -----------------------------------------------------------------------------------------------
 
-module _ (C P : ℕ) (w : List ℕ) (h r : ℕ) where
+module _ (C : Shape) (P : ℕ) (w : List ℕ) (h r : ℕ) where
   -- what the tree says of its root
   pub record RootIs : Type 0 where
     pub inside : root w < P
@@ -142,9 +142,9 @@ module _ (C P : ℕ) (w : List ℕ) (h r : ℕ) where
           ends = formed-root .ends;
         }
 
-    pub well-formed : WellFormed w
+    pub well-formed : WellFormed (C .slots) w
     unfolding WellFormed
     well-formed =
         let a = subst (λ (x : ℕ). WellFormedAt C P w x (root w)) (sym (formed-root .tall)) well-formed-at in
-        subst (λ (y : ℕ). WellFormedAt (capacity w) y w (height (capacity w) w (root w)) (root w)) (sym (F .pool-is))
-        (subst (λ (x : ℕ). WellFormedAt x P w (height x w (root w)) (root w)) (sym (F .capacity-is)) a)
+        subst (λ (y : ℕ). WellFormedAt (storeShape (C .slots) w) y w (height (storeShape (C .slots) w) w (root w)) (root w)) (sym (F .pool-is))
+        (subst (λ (x : ℕ). WellFormedAt (shape (C .slots) x) P w (height (shape (C .slots) x) w (root w)) (root w)) (sym (F .capacity-is)) a)

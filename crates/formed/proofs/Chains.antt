@@ -7,7 +7,7 @@ use native.Mathlib.Omega.{arith}
 use lib.ListN.{length}
 use lib.Dec.{T, ltb, eqb, ltb→lt, eqb→eq}
 use borrow.Author.Tests.{eqb-true, eqb-false, ltb-true, ltb-false, lt-ltb, eq-eqb}
-use Rattle.model.specs.Words.{height, count, freeMark}
+use Rattle.model.specs.Words.{Shape, height, count, freeMark}
 use Rattle.model.specs.Reading.{occ}
 use Rattle.model.specs.Append.{firsts}
 use Rattle.model.specs.WellFormed.{Chain}
@@ -17,7 +17,7 @@ use Rattle.model.proofs.Frame.{occ-self, occ-nil}
 use Rattle.model.proofs.Once.{occ-other}
 use Rattle.model.proofs.Writes.{occ-cons}
 
-module _ (C P : ℕ) (w : List ℕ) where
+module _ (C : Shape) (P : ℕ) (w : List ℕ) where
   pub chain-one : (n : ℕ) (ns ms : List ℕ) → Chain C P w n ns → Chain C P w n ms → ns ≡ ms
   unfolding Chain
   chain-one n [] [] c d = refl

@@ -8,7 +8,7 @@ use native.Mathlib.Omega.{arith}
 use lib.ListN.{length}
 use lib.Dec.{eqb, eqb→eq}
 use borrow.Author.Tests.{eqb-true, eqb-false, eq-eqb}
-use Rattle.model.specs.Words.{pick, capacity, pool, root, freeHead, freeCount, height}
+use Rattle.model.specs.Words.{storeShape, Arrangement, Shape, pick, pool, root, freeHead, freeCount, height}
 use Rattle.model.specs.Reading.{Fault, clear, at, unlessBad, firstBad, rootVisits, rootEntries, rootNodes}
 use Rattle.model.specs.Refusals.{Answer, result, refused, damaged, headerOk}
 use Rattle.model.specs.Append.{firsts}
@@ -18,7 +18,8 @@ use Rattle.model.proofs.Tests.{and-l, and-r, holds}
 use Rattle.formed.proofs.Chains.{long-firsts, follows, followed}
 use Rattle.formed.proofs.Rooted.{root-sound, sound-root, root-ends, ends-root}
 use Rattle.formed.proofs.Bridge.{counted}
-use Rattle.formed.proofs.Opens.{header-of, goes-on, sum}
+use Rattle.model.proofs.Header.{header-of}
+use Rattle.formed.proofs.Opens.{goes-on, sum}
 
 -- what an acceptance passed
 past-bad : (f : Fault) (a : Answer) (xs : List ℕ) → unlessBad f (refused 2) a ≡ result xs → (f ≡ clear) × (a ≡ result xs)
@@ -46,9 +47,9 @@ told-test : (t : Bool) (xs : List ℕ) → Told (pick t (result xs) damaged)
 told-test true xs = accepting xs
 told-test false xs = unsoundly 65535
 
-module _ (w : List ℕ) where
-  abbrev C : ℕ
-  C = capacity w
+module _ (L : Arrangement) (w : List ℕ) where
+  abbrev C : Shape
+  C = storeShape L w
 
   abbrev P : ℕ
   P = pool w
@@ -72,7 +73,7 @@ module _ (w : List ℕ) where
   opened-told : Told opened
   opened-told = told-bad (firstBad (rootVisits false C P w n)) _ (told-bad (firstBad (rootVisits true C P w n)) _ (told-test ending _))
 
-  pub accepts : (xs : List ℕ) → fullCheck w ≡ result xs → WellFormed w
+  pub accepts : (xs : List ℕ) → fullCheck L w ≡ result xs → WellFormed L w
   unfolding fullCheck WellFormed
   accepts xs e =
       let k = freeCount w in
@@ -97,24 +98,24 @@ module _ (w : List ℕ) where
         ends = root-ends C P w n (two .0);
       }
 
-  pub accepted : WellFormed w → fullCheck w ≡ result (length (rootEntries (capacity w) w (root w)) ∷ length (rootNodes (capacity w) w (root w)) ∷ freeCount w ∷ [])
+  pub accepted : WellFormed L w → fullCheck L w ≡ result (length (rootEntries (storeShape L w) w (root w)) ∷ length (rootNodes (storeShape L w) w (root w)) ∷ freeCount w ∷ [])
   unfolding fullCheck WellFormed
   accepted F =
-      goes-on w F (λ (a : Answer). a) opened
+      goes-on L w F (λ (a : Answer). a) opened
       ∙ rw (
         sound-root C P w n (F .sound),
         ends-root C P w n (F .sound) (F .ends),
         subst (λ (k : ℕ). chainEnds C P w (freeHead w) k ≡ true) (F .free) (followed C P w (freeHead w) (F .chain) (F .linked)),
-        eq-eqb (tree + freeCount w) P (sum w F),
+        eq-eqb (tree + freeCount w) P (sum L w F),
       )
 
   -- Refusals: 3 for a closed store, 2 for all else -------------------------------------------------------
 
-  pub closed : headerOk w ≡ true → root w ≡ pool w → fullCheck w ≡ refused 3 0
+  pub closed : headerOk w ≡ true → root w ≡ pool w → fullCheck L w ≡ refused 3 0
   unfolding fullCheck
   closed h e = rw (h, eq-eqb n P e)
 
-  pub closed-only : fullCheck w ≡ refused 3 0 → (headerOk w ≡ true) × (root w ≡ pool w)
+  pub closed-only : fullCheck L w ≡ refused 3 0 → (headerOk w ≡ true) × (root w ≡ pool w)
   unfolding fullCheck
   closed-only e = go (headerOk w) (eqb n P) opened refl refl opened-told e
     where
@@ -124,11 +125,11 @@ module _ (w : List ℕ) where
       go true false _ p q (unsoundly m) z = let f : _≡_ {A = ℕ} 2 3 = cc in absurd (omega arith)
       go false u a p q k z = let f : _≡_ {A = ℕ} 2 3 = cc in absurd (omega arith)
 
-  pub refuses : (WellFormed w → ⊥) → (fullCheck w ≡ refused 3 0) ⊎ ((m : ℕ) × (fullCheck w ≡ refused 2 m))
+  pub refuses : (WellFormed L w → ⊥) → (fullCheck L w ≡ refused 3 0) ⊎ ((m : ℕ) × (fullCheck L w ≡ refused 2 m))
   unfolding fullCheck
   refuses f = go (headerOk w) (eqb n P) opened opened-told refl
     where
-      go : (t u : Bool) (a : Answer) → Told a → fullCheck w ≡ pick t (pick u (refused 3 0) a) damaged → (fullCheck w ≡ refused 3 0) ⊎ ((m : ℕ) × (fullCheck w ≡ refused 2 m))
+      go : (t u : Bool) (a : Answer) → Told a → fullCheck L w ≡ pick t (pick u (refused 3 0) a) damaged → (fullCheck L w ≡ refused 3 0) ⊎ ((m : ℕ) × (fullCheck L w ≡ refused 2 m))
       go true true a k z = inl z
       go true false _ (accepting xs) z = absurd (f (accepts xs z))
       go true false _ (unsoundly m) z = inr (m, z)

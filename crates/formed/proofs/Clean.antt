@@ -5,7 +5,7 @@ use mathlib.Core.Bool.{Bool, true, false, _&&_}
 use mathlib.Core.Path.{_≡_, refl, sym, _∙_, subst}
 use native.Mathlib.Omega.{arith}
 use lib.Dec.{T, ltb, eqb, ltb→lt}
-use Rattle.model.specs.Words.{pick}
+use Rattle.model.specs.Words.{Shape, pick}
 use Rattle.model.specs.Tree.{Limit, Open, Below, endSound, sound, Level, next, last, overPairs, allPairs, Under, AllSound}
 use Rattle.model.specs.Reading.{Visit, Enter, Leave, Bad, endFits, passes, visits, Fault, clear, at, firstBad, unlessBad}
 use Rattle.model.proofs.Tests.{and-l, and-r, both, by-test, is-true}
@@ -74,12 +74,12 @@ unfolding rows
 rising-rows b e r [] t = absurd t
 rising-rows b e r (p ∷ ps) t = rising b e (p .0) (p .1) ps (and-r (eqb (p .0) r) (rises (endSound 0 b e) (p .0) ps) t)
 
-pub leaf-rises : (C : ℕ) (t : Level 1) (r : ℕ) (b : Limit) → T (sound C 0 t r b) → allPairs (λ (y : ℕ) s c. Under s c) (t .pairs) (Below (t .end))
+pub leaf-rises : (C : Shape) (t : Level 1) (r : ℕ) (b : Limit) → T (sound C 0 t r b) → allPairs (λ (y : ℕ) s c. Under s c) (t .pairs) (Below (t .end))
 leaf-rises C t r b s = rising-rows b (t .end) r (t .pairs) (soundly C 0 t r b s .rise)
 
 -- The laws -----------------------------------------------------------------------------------------------
 
-module _ (C P : ℕ) where
+module _ (C : Shape) (P : ℕ) where
   -- what a node with no Bad shows
   module _ (ends : Bool) (h m : ℕ) (t : Level (suc h)) (r : ℕ) (b : Limit) where
     abbrev Below-clean : Type 0
@@ -188,7 +188,7 @@ first-pairs f e Q g [] b a = refl
 first-pairs f e Q g (p ∷ ps) b a =
     rw (bad-append, first-append, g (p .1) (p .0) (next ps b) (a .0), first-pairs f e Q g ps b (a .1))
 
-module _ (C P : ℕ) where
+module _ (C : Shape) (P : ℕ) where
   pub first-wrong : (h m : ℕ) (t : Level h) (r : ℕ) (b : Limit) → AllSound C P h t r b → firstBad (visits true C P h m t r b) ≡ firstOf (wrongEnds h t r b)
   unfolding AllSound visits passes wrongEnds firstBad firstOf
   first-wrong zero m t r b g = refl

@@ -6,7 +6,7 @@ use mathlib.Core.Bool.{Bool, true, false, _||_}
 use mathlib.Core.Path.{_≡_, sym, _∙_, subst}
 use mathlib.Core.Logic.{_⊎_, inl, inr, ⊎-elim}
 use lib.Dec.{T, ltb, leb, eqb, eqb→eq, eqb-refl}
-use Rattle.model.specs.Words.{NONE, rowLimit}
+use Rattle.model.specs.Words.{Shape, NONE, rowLimit}
 use Rattle.model.specs.Tree.{Limit, Open, Below, endSound, Level, next, last, allPairs, AllSound}
 use Rattle.model.specs.Reading.{endFits}
 use Rattle.model.specs.WellFormed.{ofLast, lastEnd, OffEdge, EndFits, EndsFit}
@@ -39,7 +39,7 @@ module _ {K : Type 0} (Q : K → ℕ → Limit → Type 0) (f : K → ℕ) (s : 
   last-begun : (r : ℕ) (ps : List (ℕ × K)) → Begins r ps → allPairs Q ps b → ofLast f ps ≡ s
   last-begun r _ (begins x ps) a = last-child (r, x) ps a
 
-module _ (C P : ℕ) where
+module _ (C : Shape) (P : ℕ) where
   -- the end of the last leaf is the bound
   pub tip : (h : ℕ) (t : Level (suc h)) (r s : ℕ) → AllSound C P (suc h) t r (Below s) → lastEnd h t ≡ s
   unfolding AllSound lastEnd last endSound

@@ -4,7 +4,7 @@ use mathlib.Core.List.{List, [], _∷_, _++_}
 use mathlib.Core.Path.{_≡_, refl, sym, ap, ap₂, _∙_, subst}
 use native.Mathlib.Omega.{arith}
 use lib.ListN.{length}
-use Rattle.model.specs.Words.{capacity, pool, root, height, start, rowLimit}
+use Rattle.model.specs.Words.{storeShape, Arrangement, shape, Shape, pool, root, height, start, rowLimit}
 use Rattle.model.specs.Tree.{Limit, Open, Below, Level, overPairs}
 use Rattle.model.specs.Reading.{Entry, entries, rootEntries}
 use Rattle.model.specs.WellFormed.{WellFormed}
@@ -61,7 +61,7 @@ run-rises _ _ _ (none r) u = u
 run-rises _ _ _ (more r x z page es l s) u = (l, run-rises x z es s u)
 
 -- the entries of a whole tree: a run from its start
-module _ (C P h : ℕ) (t : Level (suc h)) (r : ℕ) where
+module _ (C : Shape) (P h : ℕ) (t : Level (suc h)) (r : ℕ) where
   pub whole-run : Whole C P h t r → (z : ℕ) × Run r (entries (suc h) t r Open) z × (z ≤ rowLimit)
   unfolding entries overPairs
   whole-run (Whole.blank b) = (r, rw (b .none) (none r), b .low)
@@ -74,48 +74,48 @@ module _ (C P h : ℕ) (t : Level (suc h)) (r : ℕ) where
   whole-rises u = let z = whole-run u in run-rises r (z .0) (entries (suc h) t r Open) (z .1) (z .2)
 
 -- the ledger of a store
-abbrev pub ledgerAt : List ℕ → Ledger
-ledgerAt w = record { start = start (capacity w) w (root w); ranges = ledgerOf (rootEntries (capacity w) w (root w)) }
+abbrev pub ledgerAt : Arrangement → List ℕ → Ledger
+ledgerAt L w = record { start = start (storeShape L w) w (root w); ranges = ledgerOf (rootEntries (storeShape L w) w (root w)) }
 
-module _ (w : List ℕ) where
-  pub held : WellFormed w → Holds w (ledgerAt w)
+module _ (L : Arrangement) (w : List ℕ) where
+  pub held : WellFormed L w → Holds L w (ledgerAt L w)
   held F =
       record {
         formed = F;
         begin = refl;
-        entries = sym (whole-ledger (capacity w) (pool w) (height (capacity w) w (root w)) _ (start (capacity w) w (root w)) (formed-of w F .1 .whole));
+        entries = sym (whole-ledger (storeShape L w) (pool w) (height (storeShape L w) w (root w)) _ (start (storeShape L w) w (root w)) (formed-of L w F .1 .whole));
       }
 
-  pub holds-is : (l : Ledger) → Holds w l → ledgerAt w ≡ l
+  pub holds-is : (l : Ledger) → Holds L w l → ledgerAt L w ≡ l
   holds-is l H =
       ap₂ (λ (s : ℕ) (gs : List Range). let k : Ledger = record { start = s; ranges = gs } in k) (H .begin) (ap ledgerOf (H .entries) ∙ ledger-from (l .start) (l .ranges))
 
-  pub holds-one : (a b : Ledger) → Holds w a → Holds w b → a ≡ b
+  pub holds-one : (a b : Ledger) → Holds L w a → Holds L w b → a ≡ b
   holds-one a b x y = sym (holds-is a x) ∙ holds-is b y
 
-  pub holds-rises : (l : Ledger) → Holds w l → Rising (l .start) (l .ranges)
+  pub holds-rises : (l : Ledger) → Holds L w l → Rising (l .start) (l .ranges)
   holds-rises l H =
       subst (λ (k : Ledger). Rising (k .start) (k .ranges)) (holds-is l H)
-      (whole-rises (capacity w) (pool w) (height (capacity w) w (root w)) _ (start (capacity w) w (root w)) (formed-of w (H .formed) .1 .whole))
+      (whole-rises (storeShape L w) (pool w) (height (storeShape L w) w (root w)) _ (start (storeShape L w) w (root w)) (formed-of L w (H .formed) .1 .whole))
 
 -- From the working form and back -------------------------------------------------------------------------
 
-module _ (C P : ℕ) (w : List ℕ) (h r : ℕ) (ns : List ℕ) (F : Formed C P w h r ns) where
+module _ (C : Shape) (P : ℕ) (w : List ℕ) (h r : ℕ) (ns : List ℕ) (F : Formed C P w h r ns) where
   -- the root's entries, whatever names the store's parts
-  pub formed-entries : rootEntries (capacity w) w (root w) ≡ entries (suc h) (treeOf C w h) r Open
+  pub formed-entries : rootEntries (storeShape (C .slots) w) w (root w) ≡ entries (suc h) (treeOf C w h) r Open
   formed-entries =
       let R = formed-root C P w h r ns F in
       rw (F .capacity-is) (ap (λ (s : ℕ). entries (suc (height C w (root w))) (treeOf C w (height C w (root w))) s Open) (R .begin) ∙ ap (λ (k : ℕ). entries (suc k) (treeOf C w k) r Open) (R .tall))
 
-  pub formed-holds : (gs : List Range) → entries (suc h) (treeOf C w h) r Open ≡ entriesFrom r gs → Holds w (record { start = r; ranges = gs })
+  pub formed-holds : (gs : List Range) → entries (suc h) (treeOf C w h) r Open ≡ entriesFrom r gs → Holds (C .slots) w (record { start = r; ranges = gs })
   formed-holds gs e =
       record {
         formed = well-formed C P w h r ns F;
-        begin = ap (λ (x : ℕ). start x w (root w)) (F .capacity-is) ∙ formed-root C P w h r ns F .begin;
+        begin = ap (λ (x : ℕ). start (shape (C .slots) x) w (root w)) (F .capacity-is) ∙ formed-root C P w h r ns F .begin;
         entries = formed-entries ∙ e;
       }
 
-  pub holds-formed : (l : Ledger) → Holds w l → (l .start ≡ r) × (entries (suc h) (treeOf C w h) r Open ≡ entriesFrom r (l .ranges))
+  pub holds-formed : (l : Ledger) → Holds (C .slots) w l → (l .start ≡ r) × (entries (suc h) (treeOf C w h) r Open ≡ entriesFrom r (l .ranges))
   holds-formed l H =
-      let s : l .start ≡ r = sym (H .begin) ∙ ap (λ (x : ℕ). start x w (root w)) (F .capacity-is) ∙ formed-root C P w h r ns F .begin in
+      let s : l .start ≡ r = sym (H .begin) ∙ ap (λ (x : ℕ). start (shape (C .slots) x) w (root w)) (F .capacity-is) ∙ formed-root C P w h r ns F .begin in
       (s, sym formed-entries ∙ H .entries ∙ ap (λ (x : ℕ). entriesFrom x (l .ranges)) s)

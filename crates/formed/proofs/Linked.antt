@@ -3,7 +3,7 @@ use Prim.Native.Nat.{ℕ, zero, suc, _<_, _≤_}
 use mathlib.Core.List.{List, [], _∷_, _++_, append-nil}
 use mathlib.Core.Path.{_≡_, subst}
 use lib.Dec.{T, leb, ltb, leb→le}
-use Rattle.model.specs.Words.{rowLimit}
+use Rattle.model.specs.Words.{Shape, rowLimit}
 use Rattle.model.specs.Tree.{Limit, Open, Below, meets, endSound, Level, next, last, overPairs, allPairs, Under, AllSound}
 use Rattle.model.specs.Reading.{Entry, entries}
 use Rattle.model.proofs.Tests.{and-l, and-r}
@@ -31,12 +31,12 @@ pub record Linked (r : ℕ) (es : List Entry) (b : Limit) : Type 0 where
 
 -- In a leaf ----------------------------------------------------------------------------------------------
 
-leaf-run : (e : ℕ) (p : ℕ × ℕ) (ps : List (ℕ × ℕ)) (C P : ℕ) → allPairs (AllSound C P 0) (p ∷ ps) (Below e) → Run (p .0) (overPairs (entries 0) (p ∷ ps) (Below e)) e
+leaf-run : (e : ℕ) (p : ℕ × ℕ) (ps : List (ℕ × ℕ)) (C : Shape) (P : ℕ) → allPairs (AllSound C P 0) (p ∷ ps) (Below e) → Run (p .0) (overPairs (entries 0) (p ∷ ps) (Below e)) e
 unfolding allPairs AllSound Under overPairs entries next
 leaf-run e p [] C P a = more (p .0) e e (p .1) [] (a .0) (none e)
 leaf-run e p (q ∷ ps) C P a = more (p .0) (q .0) e (p .1) _ (a .0) (leaf-run e q ps C P (a .1))
 
-leaf-begins : (e r : ℕ) (ps : List (ℕ × ℕ)) (C P : ℕ) → Begins r ps → allPairs (AllSound C P 0) ps (Below e) → Run r (overPairs (entries 0) ps (Below e)) e
+leaf-begins : (e r : ℕ) (ps : List (ℕ × ℕ)) (C : Shape) (P : ℕ) → Begins r ps → allPairs (AllSound C P 0) ps (Below e) → Run r (overPairs (entries 0) ps (Below e)) e
 leaf-begins e r _ C P (begins x ps) a = leaf-run e (r, x) ps C P a
 
 ends-at : (b : Limit) (e l : ℕ) → T (endSound 0 b e l) → Meets b e
@@ -68,7 +68,7 @@ module _ {K : Type 0} (f : K → ℕ → Limit → List Entry) (Q : K → ℕ �
   begins-linked r _ b (begins x ps) a = pairs-linked (r, x) ps b a
 
 -- the law
-pub sound-linked : (C P h : ℕ) (t : Level (suc h)) (r : ℕ) (b : Limit) → AllSound C P (suc h) t r b → Linked r (entries (suc h) t r b) b
+pub sound-linked : (C : Shape) (P h : ℕ) (t : Level (suc h)) (r : ℕ) (b : Limit) → AllSound C P (suc h) t r b → Linked r (entries (suc h) t r b) b
 unfolding entries AllSound last
 sound-linked C P zero t r b g =
     let s = sound-ends C 0 t r b (g .1) in

@@ -7,7 +7,7 @@ use mathlib.Core.Logic.{inl}
 use native.Mathlib.Omega.{arith}
 use lib.Dec.{T, leb, eqb, ltb→lt, leb→le, eqb→eq}
 use borrow.Author.Tests.{eqb-true, eqb-false, leb-true, le-leb, eq-eqb}
-use Rattle.model.specs.Words.{pick, part, height, count, start, end, NONE, rowLimit, maxHeight}
+use Rattle.model.specs.Words.{Shape, pick, part, height, count, start, end, NONE, rowLimit, maxHeight}
 use Rattle.model.specs.Tree.{Limit, Open, pairsFrom, emptyRoot, Level, level, last, overPairs, allPairs, AllSound}
 use Rattle.model.specs.Reading.{Visit, Enter, Leave, Bad, endFits, visits, rootVisits, clear, firstBad, entries, occ, inPairs, nodes}
 use Rattle.model.specs.WellFormed.{EndFits, EndsFit, EmptyRoot, SoundRoot, emptyTree, soundTree}
@@ -21,7 +21,7 @@ use Rattle.formed.proofs.Ends.{sound-well, well-ends}
 
 -- An empty root ------------------------------------------------------------------------------------------
 
-pub empty-of : (C : ℕ) (w : List ℕ) (n : ℕ) → emptyRoot C w n ≡ true → EmptyRoot C w n
+pub empty-of : (C : Shape) (w : List ℕ) (n : ℕ) → emptyRoot C w n ≡ true → EmptyRoot C w n
 unfolding emptyRoot
 empty-of C w n e =
     let z = holds _ e in
@@ -32,7 +32,7 @@ empty-of C w n e =
       ends = eqb→eq (end C w n) NONE (search (and-l, and-r, z));
     }
 
-module _ (C : ℕ) (w : List ℕ) (h n : ℕ) (e : EmptyRoot C w n) where
+module _ (C : Shape) (w : List ℕ) (h n : ℕ) (e : EmptyRoot C w n) where
   pub empty-pairs : level C w (suc h) n .pairs ≡ []
   unfolding level pairsFrom
   empty-pairs = rw (e .none)
@@ -64,7 +64,7 @@ module _ (C : ℕ) (w : List ℕ) (h n : ℕ) (e : EmptyRoot C w n) where
 
 -- The nodes of a sound tree are in the pool ---------------------------------------------------------------
 
-pub inside : (C P m : ℕ) → P ≤ m → (h : ℕ) (t : Level h) (r : ℕ) (b : Limit) → AllSound C P h t r b → occ m (nodes h t) ≡ 0
+pub inside : (C : Shape) (P m : ℕ) → P ≤ m → (h : ℕ) (t : Level h) (r : ℕ) (b : Limit) → AllSound C P h t r b → occ m (nodes h t) ≡ 0
 unfolding AllSound nodes
 inside C P m l zero t r b g = occ-nil m
 inside C P m l (suc h) t r b g =
@@ -75,7 +75,7 @@ inside C P m l (suc h) t r b g =
       occ-other m (t .number) (λ e. absurd (omega (arith, ltb→lt (t .number) P (g .0)))),
     )
 
-module _ (C P : ℕ) (w : List ℕ) (h n : ℕ) where
+module _ (C : Shape) (P : ℕ) (w : List ℕ) (h n : ℕ) where
   -- each once, in the pool, not marked free
   pub root-once : (m : ℕ) → SoundRoot C P w h n → occ m (nodes (suc h) (level C w (suc h) n)) ≤ 1
   root-once m (emptyTree e) =
@@ -97,7 +97,7 @@ module _ (C P : ℕ) (w : List ℕ) (h n : ℕ) where
 
 -- The root's visits --------------------------------------------------------------------------------------
 
-module _ (C P : ℕ) (w : List ℕ) (n : ℕ) where
+module _ (C : Shape) (P : ℕ) (w : List ℕ) (n : ℕ) where
   abbrev tall : ℕ
   tall = height C w n
 

@@ -9,7 +9,7 @@ use native.Mathlib.Nat.{zero-add}
 use lib.ListN.{length, length-append}
 use lib.Dec.{T, ltb, eqb}
 use borrow.Author.Tests.{eq-eqb, ne-eqb, le-leb}
-use Rattle.model.specs.Words.{pick, height, count, start, end, row, child, maxHeight}
+use Rattle.model.specs.Words.{Shape, pick, height, count, start, end, row, child, maxHeight}
 use Rattle.model.specs.Tree.{Limit, Open, pairsFrom, sound, Level, level, next, last, overPairs, allPairs, AllSound}
 use Rattle.model.specs.Reading.{Visit, Enter, Leave, Bad, endFits, passes, visits, rootVisits, entries, inPairs, nodes, rootEntries, rootNodes}
 use Rattle.model.specs.WellFormed.{EmptyRoot, SoundRoot, emptyTree, soundTree}
@@ -36,7 +36,7 @@ left (Leave n ∷ vs) = n ∷ left vs
 left (Bad n ∷ vs) = left vs
 
 -- the entries of the leaves entered
-unfoldable pub pagesIn : ℕ → List ℕ → List Visit → ℕ
+unfoldable pub pagesIn : Shape → List ℕ → List Visit → ℕ
 pagesIn C w [] = 0
 pagesIn C w (Enter n ∷ vs) = pick (eqb (height C w n) 0) (count C w n) 0 + pagesIn C w vs
 pagesIn C w (Leave n ∷ vs) = pagesIn C w vs
@@ -56,7 +56,7 @@ left-append (Enter n ∷ a) b = left-append a b
 left-append (Leave n ∷ a) b = ap (λ (l : List ℕ). n ∷ l) (left-append a b)
 left-append (Bad n ∷ a) b = left-append a b
 
-pub pages-append : (C : ℕ) (w : List ℕ) (a b : List Visit) → pagesIn C w (a ++ b) ≡ pagesIn C w a + pagesIn C w b
+pub pages-append : (C : Shape) (w : List ℕ) (a b : List Visit) → pagesIn C w (a ++ b) ≡ pagesIn C w a + pagesIn C w b
 unfolding pagesIn
 pages-append C w [] b = sym (zero-add (pagesIn C w b))
 pages-append C w (Enter n ∷ a) b = omega (arith, pages-append C w a b)
@@ -65,7 +65,7 @@ pages-append C w (Bad n ∷ a) b = pages-append C w a b
 
 -- Nodes --------------------------------------------------------------------------------------------------
 
-module _ (C P : ℕ) where
+module _ (C : Shape) (P : ℕ) where
   pub left-pairs : {K : Type 0} (f : K → ℕ → Limit → List Visit) (ns : K → List ℕ) (Q : K → ℕ → Limit → Type 0) → ((x : K) (r : ℕ) (b : Limit) → Q x r b → left (f x r b) ≡ ns x)
       → (ps : List (ℕ × K)) (b : Limit) → allPairs Q ps b → left (overPairs f ps b) ≡ inPairs ns ps
   unfolding overPairs inPairs allPairs left
@@ -126,12 +126,12 @@ module _ (C P : ℕ) where
 
 -- Entries ------------------------------------------------------------------------------------------------
 
-pub leaf-visits : (C P m : ℕ) (ps : List (ℕ × ℕ)) (b : Limit) → overPairs (visits false C P 0 m) ps b ≡ []
+pub leaf-visits : (C : Shape) (P m : ℕ) (ps : List (ℕ × ℕ)) (b : Limit) → overPairs (visits false C P 0 m) ps b ≡ []
 unfolding overPairs visits
 leaf-visits C P m [] b = refl
 leaf-visits C P m (p ∷ ps) b = leaf-visits C P m ps b
 
-module _ (C P : ℕ) (w : List ℕ) where
+module _ (C : Shape) (P : ℕ) (w : List ℕ) where
   pages-pairs : (g n i k : ℕ) (b : Limit)
       → ((m x r : ℕ) (a : Limit) → AllSound C P g (level C w g x) r a → pagesIn C w (visits false C P g m (level C w g x) r a) ≡ length (entries g (level C w g x) r a))
       → allPairs (AllSound C P g) (pairsFrom C w (level C w g) n i k) b
@@ -161,7 +161,7 @@ module _ (C P : ℕ) (w : List ℕ) where
 
 -- Where ends fit too, both visits are the same -----------------------------------------------------------
 
-module _ (C P : ℕ) where
+module _ (C : Shape) (P : ℕ) where
   same-pairs : {K : Type 0} (f g : K → ℕ → Limit → List Visit) (Q : K → ℕ → Limit → Type 0) → ((x : K) (r : ℕ) (b : Limit) → Q x r b → f x r b ≡ g x r b)
       → (ps : List (ℕ × K)) (b : Limit) → allPairs Q ps b → overPairs f ps b ≡ overPairs g ps b
   unfolding overPairs allPairs
@@ -176,7 +176,7 @@ module _ (C P : ℕ) where
 
 -- From the root ------------------------------------------------------------------------------------------
 
-module _ (C P : ℕ) (w : List ℕ) (n : ℕ) where
+module _ (C : Shape) (P : ℕ) (w : List ℕ) (n : ℕ) where
   abbrev tall : ℕ
   tall = height C w n
 

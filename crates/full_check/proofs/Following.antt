@@ -6,14 +6,14 @@ use mathlib.Core.Path.{_≡_}
 use native.Mathlib.Omega.{arith}
 use lib.Dec.{eqb}
 use borrow.Author.Tests.{lt-ltb, le-ltb, eq-eqb, ne-eqb}
-use Rattle.model.specs.Words.{height, count, freeMark}
+use Rattle.model.specs.Words.{Shape, height, count, freeMark}
 use Rattle.model.specs.FullCheck.{chainEnds}
 use Rattle.model.specs.Refusals.{result, damaged}
 use Rattle.node.specs.declared.header.StoreHeader.{StoreHeader}
 use Rattle.survey.specs.declared.Counts.{Counts}
 use Rattle.full_check.specs.Ending.{ending}
 
-module _ (C P : ℕ) (w : List ℕ) (n i : ℕ) where
+module _ (C : Shape) (P : ℕ) (w : List ℕ) (n i : ℕ) where
   pub ends-done : i ≤ 0 → chainEnds C P w n i ≡ eqb n P
   unfolding chainEnds
   ends-done z = let e : i ≡ 0 = omega arith in rw e

@@ -4,12 +4,12 @@ use mathlib.Core.List.{List}
 use mathlib.Core.Bool.{Bool, true, false}
 use mathlib.Core.Path.{_≡_, sym, _∙_, subst}
 use lib.ListN.{length}
-use Rattle.model.specs.Words.{capacity, pool, root}
+use Rattle.model.specs.Words.{storeShape, Shape, lent, pool, root}
 use Rattle.model.specs.Reading.{Visit, clear, firstBad, rootVisits, rootEntries, rootNodes}
 use Rattle.model.specs.FullCheck.{chainEnds, fullCheck}
 use Rattle.model.specs.Refusals.{Answer, refused}
 use Rattle.formed.proofs.Rooted.{root-sound}
-use Rattle.node.specs.Layout.{storeHeader}
+use Rattle.node.specs.Layout.{shapeOf, storeHeader}
 use Rattle.node.specs.declared.header.StoreHeader.{StoreHeader}
 use Rattle.node.proofs.Opened.{IsOpen, goes-on}
 use Rattle.survey.specs.Tally.{noCounts, tally}
@@ -20,8 +20,8 @@ use Rattle.survey.proofs.Exact.{survey-bad, survey-clear, survey-counts}
 use Rattle.full_check.specs.Ending.{ending}
 
 module _ (w : List ℕ) where
-  abbrev C : ℕ
-  C = capacity w
+  abbrev C : Shape
+  C = storeShape lent w
 
   abbrev P : ℕ
   P = pool w
@@ -34,14 +34,14 @@ module _ (w : List ℕ) where
 
   -- what is read, by the header
   abbrev reading : StoreHeader → Bool → Survey
-  reading h ends = tally (h .layout .capacity) w (rootVisits ends (h .layout .capacity) (h .layout .pool) w (h .root .0)) noCounts
+  reading h ends = tally (shapeOf (h .layout)) w (rootVisits ends (shapeOf (h .layout)) (h .layout .pool) w (h .root .0)) noCounts
 
   module _ (h : StoreHeader) (o : IsOpen w h) where
     of-store : (ends : Bool) (x : Survey) → reading h ends ≡ x → reading (storeHeader w) ends ≡ x
     of-store ends x e = subst (λ (g : StoreHeader). reading g ends ≡ x) (o .header-is) e
 
     -- an unsound node
-    pub first-bad : (n : ℕ) → reading h false ≡ Unsound (record { 0 = n }) → fullCheck w ≡ refused 2 n
+    pub first-bad : (n : ℕ) → reading h false ≡ Unsound (record { 0 = n }) → fullCheck lent w ≡ refused 2 n
     unfolding fullCheck
     first-bad n e = goes-on w h o (λ (a : Answer). a) _ ∙ rw (survey-bad C w first noCounts n (of-store false _ e))
 
@@ -50,7 +50,7 @@ module _ (w : List ℕ) where
       none-bad = survey-clear C w first noCounts k (of-store false _ e)
 
       -- a branch whose end is wrong
-      pub second-bad : (n : ℕ) → reading h true ≡ Unsound (record { 0 = n }) → fullCheck w ≡ refused 2 n
+      pub second-bad : (n : ℕ) → reading h true ≡ Unsound (record { 0 = n }) → fullCheck lent w ≡ refused 2 n
       unfolding fullCheck
       second-bad n f = goes-on w h o (λ (a : Answer). a) _ ∙ rw (none-bad, survey-bad C w second noCounts n (of-store true _ f))
 
@@ -61,7 +61,7 @@ module _ (w : List ℕ) where
           (cc, cc)
 
       -- all but the chain
-      pub both-clear : (j : Counts) → reading h true ≡ Counted j → fullCheck w ≡ ending h k (chainEnds (h .layout .capacity) (h .layout .pool) w (h .«free_head» .0) (h .«free_count»))
+      pub both-clear : (j : Counts) → reading h true ≡ Counted j → fullCheck lent w ≡ ending h k (chainEnds (shapeOf (h .layout)) (h .layout .pool) w (h .«free_head» .0) (h .«free_count»))
       unfolding fullCheck ending
       both-clear j f =
           goes-on w h o (λ (a : Answer). a) _

@@ -2,9 +2,10 @@
 
 ghost use mathlib.Core.Path.{_≡_};
 ghost use Prim.Native.Nat.{_+_, _-_, _≤_, _<_};
+ghost use Rattle.model.specs.Words.{lent};
 ghost use Rattle.model.specs.FullCheck.{chainEnds, fullCheck};
 ghost use Rattle.model.specs.Refusals.{checkedAnswer};
-ghost use Rattle.node.specs.Layout.{Fits, opened};
+ghost use Rattle.node.specs.Layout.{Fits, opened, shapeOf};
 ghost use Rattle.node.specs.declared.header.Opened.the-variants.{Open};
 ghost use Rattle.full_check.specs.Ending.{ending};
 use model::answer::Checked;
@@ -22,7 +23,7 @@ use survey::Survey;
 // Whether k free nodes from head on lead to the end of the chain.
 fn follow_chain(l: Layout, s: &[u64], head: NodeNo, k: u64) -> bool
     requires { ⌜ Fits l (now s) ⌝ }
-    ensures { λ r. ⌜ r ≡ chainEnds (l .capacity) (l .pool) (now (s .entry)) (head .0) k ⌝ }
+    ensures { λ r. ⌜ r ≡ chainEnds (shapeOf l) (l .pool) (now (s .entry)) (head .0) k ⌝ }
 {
     let mut n = head;
     let mut more = k;
@@ -63,7 +64,7 @@ fn check_counts(h: StoreHeader, counts: Counts, chain: bool) -> Checked
 // long call of the survey the compiler kept the words' address where such loads took nearly twice as long.
 fn check_open(h: StoreHeader, s: &[u64]) -> Checked
     requires { ⌜ opened (now s) ≡ Open h ⌝ }
-    ensures { λ r. ⌜ checkedAnswer r ≡ fullCheck (now (s .entry)) ⌝ }
+    ensures { λ r. ⌜ checkedAnswer r ≡ fullCheck lent (now (s .entry)) ⌝ }
 {
     let chain = follow_chain(h.layout, s, h.free_head, h.free_count);
     let surveys = survey::survey_both(h.layout, s, h.root);
@@ -80,7 +81,7 @@ fn check_open(h: StoreHeader, s: &[u64]) -> Checked
 
 // Whether the store is well-formed, with its counts; or the first fault.
 pub fn full_check(s: &[u64]) -> Checked
-    ensures { λ r. ⌜ checkedAnswer r ≡ fullCheck (now (s .entry)) ⌝ }
+    ensures { λ r. ⌜ checkedAnswer r ≡ fullCheck lent (now (s .entry)) ⌝ }
 {
     match header::open(s) {
         Opened::Refused(r) => Checked::Refused(r),

@@ -7,7 +7,7 @@ use native.Mathlib.Omega.{arith}
 use native.Mathlib.Nat.{eq-or-lt-of-le}
 use native.Mathlib.Numerals.{add-one}
 use lib.ListN.{length}
-use Rattle.model.specs.Words.{put, added, copied, height, NONE, maxHeight, Header}
+use Rattle.model.specs.Words.{Shape, put, added, copied, height, NONE, maxHeight, Header}
 use Rattle.model.specs.Append.{fresh, topOf, endOver, newPath, hang, raised, splitRoot}
 use Rattle.model.specs.declared.id.NodeNo.{NodeNo}
 use Rattle.model.proofs.Words.{put-length, header-at}
@@ -39,7 +39,7 @@ inside-rest P l zero h i = absurd (omega arith)
 inside-rest P l (suc k) h i = let q : suc k - 1 ≡ k = omega arith in rw q (i .1)
 
 -- places i to n of the array, the leaf last
-module _ (C s e x : ℕ) (w : List ℕ) (l : List NodeNo) where
+module _ (C : Shape) (s e x : ℕ) (w : List ℕ) (l : List NodeNo) where
   pub path-turn : (i n : ℕ) → i < n → newPath C w s e x (listed l i (n + 1 - i)) ≡ newPath C (fresh C w (numberAt l i) (n - i) s NONE (numberAt l (i + 1))) s e x (listed l (i + 1) (n + 1 - (i + 1)))
   unfolding newPath topOf endOver
   path-turn i n h =
@@ -61,7 +61,7 @@ module _ (C s e x : ℕ) (w : List ℕ) (l : List NodeNo) where
   pub path-close : (i n : ℕ) → i ≤ n → n ≤ i → newPath C w s e x (listed l i (n + 1 - i)) ≡ fresh C w (numberAt l n) 0 s e x
   path-close i n a b = let q : i ≡ n = omega arith in subst (λ (j : ℕ). newPath C w s e x (listed l j (n + 1 - j)) ≡ fresh C w (numberAt l n) 0 s e x) (sym q) (path-end n)
 
-module _ (C : ℕ) (w : List ℕ) (n s e x : ℕ) (l : List NodeNo) where
+module _ (C : Shape) (w : List ℕ) (n s e x : ℕ) (l : List NodeNo) where
   pub hang-page : (k : ℕ) → k ≡ 0 → hang C w n s e x (listed l 0 k) ≡ put C (added C w n s x) n 3 e
   unfolding hang listed
   hang-page k z = rw z
@@ -79,10 +79,10 @@ module _ (C : ℕ) (w : List ℕ) (n s e x : ℕ) (l : List NodeNo) where
   split-is (suc (suc k)) h = let q : suc (suc k) - 1 ≡ suc k = omega arith in rw q
 
 -- the root's height is the same where its copy was written
-module _ (C : ℕ) (w : List ℕ) (n c s : ℕ) (d : n ≢ c) where
+module _ (C : Shape) (w : List ℕ) (n c s : ℕ) (d : n ≢ c) where
   pub split-high : height C w n ≤ maxHeight → height C (put C (copied C w n c) c 3 s) n ≤ maxHeight
   split-high l = omega (arith, copied-keeps C n c w n d 0 (omega arith), put-keeps C (copied C w n c) c n 3 s d (omega arith) 0 (omega arith))
 
-pub raised-header : (C P : ℕ) (w : List ℕ) (n c s m : ℕ) → Header C P w → Header C P (raised C w n c s m)
+pub raised-header : (C : Shape) (P : ℕ) (w : List ℕ) (n c s m : ℕ) → Header (C .cap) P w → Header (C .cap) P (raised C w n c s m)
 unfolding raised
-raised-header C P w n c s m hd = header-at C P w _ hd (simp put-length)
+raised-header C P w n c s m hd = header-at (C .cap) P w _ hd (simp put-length)

@@ -5,7 +5,7 @@ ghost use mathlib.Core.Logic.{_≢_};
 ghost use Prim.Native.Nat.{_+_, _-_, _≤_, _<_};
 ghost use Rattle.model.specs.Words.{NONE, count, height};
 ghost use Rattle.model.specs.Append.{fresh, hang, newPath, raised, splitRoot};
-ghost use Rattle.node.specs.Layout.{Fits};
+ghost use Rattle.node.specs.Layout.{Fits, shapeOf};
 ghost use Rattle.pool.specs.Write.{listed};
 ghost use Rattle.grow.specs.Inside.{Inside, numberAt};
 use model::id::NodeNo;
@@ -26,7 +26,7 @@ pub struct NewPage {
 fn fresh_branch(l: Layout, s: &mut [u64], n: NodeNo, height: u64, new: NewPage, child: NodeNo)
     requires { ⌜ Fits l (now s) ⌝ }
     requires { ⌜ n .0 < l .pool ⌝ }
-    ensures { λ _. ⌜ now (s .exit) ≡ fresh (l .capacity) (now (s .entry)) (n .0) height (new .start .0) NONE (child .0) ⌝ }
+    ensures { λ _. ⌜ now (s .exit) ≡ fresh (shapeOf l) (now (s .entry)) (n .0) height (new .start .0) NONE (child .0) ⌝ }
 {
     let start = new.start;
     let header = RowPageIndexNodeHeader {
@@ -43,7 +43,7 @@ fn fresh_branch(l: Layout, s: &mut [u64], n: NodeNo, height: u64, new: NewPage, 
 fn fresh_leaf(l: Layout, s: &mut [u64], n: NodeNo, new: NewPage)
     requires { ⌜ Fits l (now s) ⌝ }
     requires { ⌜ n .0 < l .pool ⌝ }
-    ensures { λ _. ⌜ now (s .exit) ≡ fresh (l .capacity) (now (s .entry)) (n .0) 0 (new .start .0) (new .end .0) (new .page .0) ⌝ }
+    ensures { λ _. ⌜ now (s .exit) ≡ fresh (shapeOf l) (now (s .entry)) (n .0) 0 (new .start .0) (new .end .0) (new .page .0) ⌝ }
 {
     let start = new.start;
     let end = new.end;
@@ -61,7 +61,7 @@ fn fresh_leaf(l: Layout, s: &mut [u64], n: NodeNo, new: NewPage)
 fn new_path(l: Layout, s: &mut [u64], new: NewPage, nodes: [NodeNo; 32], at: usize, k: usize)
     requires { ⌜ Fits l (now s) ⌝ }
     requires { ⌜ (1 ≤ k) × (at + k ≤ 32) × Inside (l .pool) (listed nodes at k) ⌝ }
-    ensures { λ _. ⌜ now (s .exit) ≡ newPath (l .capacity) (now (s .entry)) (new .start .0) (new .end .0) (new .page .0) (listed nodes at k) ⌝ }
+    ensures { λ _. ⌜ now (s .exit) ≡ newPath (shapeOf l) (now (s .entry)) (new .start .0) (new .end .0) (new .page .0) (listed nodes at k) ⌝ }
 {
     let leaf = at + k - 1;
     let mut i = at;
@@ -78,8 +78,8 @@ fn new_path(l: Layout, s: &mut [u64], new: NewPage, nodes: [NodeNo; 32], at: usi
 // One more entry in node n: the page, where n is the right leaf, or a path of k nodes over it.
 pub fn hang(l: Layout, s: &mut [u64], n: NodeNo, new: NewPage, nodes: [NodeNo; 32], k: usize)
     requires { ⌜ Fits l (now s) ⌝ }
-    requires { ⌜ (n .0 < l .pool) × (count (l .capacity) (now s) (n .0) < l .capacity) × (k ≤ 32) × Inside (l .pool) (listed nodes 0 k) ⌝ }
-    ensures { λ _. ⌜ now (s .exit) ≡ hang (l .capacity) (now (s .entry)) (n .0) (new .start .0) (new .end .0) (new .page .0) (listed nodes 0 k) ⌝ }
+    requires { ⌜ (n .0 < l .pool) × (count (shapeOf l) (now s) (n .0) < l .capacity) × (k ≤ 32) × Inside (l .pool) (listed nodes 0 k) ⌝ }
+    ensures { λ _. ⌜ now (s .exit) ≡ hang (shapeOf l) (now (s .entry)) (n .0) (new .start .0) (new .end .0) (new .page .0) (listed nodes 0 k) ⌝ }
 {
     if k == 0 {
         write::add_page(l, s, n, new.start, new.page);
@@ -94,8 +94,8 @@ pub fn hang(l: Layout, s: &mut [u64], n: NodeNo, new: NewPage, nodes: [NodeNo; 3
 // Root n gets two entries: its copy from its start on, and node top from row start on.
 fn raise(l: Layout, s: &mut [u64], n: NodeNo, copy: NodeNo, start: RowID, top: NodeNo)
     requires { ⌜ Fits l (now s) ⌝ }
-    requires { ⌜ (n .0 < l .pool) × (height (l .capacity) (now s) (n .0) ≤ 31) ⌝ }
-    ensures { λ _. ⌜ now (s .exit) ≡ raised (l .capacity) (now (s .entry)) (n .0) (copy .0) (start .0) (top .0) ⌝ }
+    requires { ⌜ (n .0 < l .pool) × (height (shapeOf l) (now s) (n .0) ≤ 31) ⌝ }
+    ensures { λ _. ⌜ now (s .exit) ≡ raised (shapeOf l) (now (s .entry)) (n .0) (copy .0) (start .0) (top .0) ⌝ }
 {
     let h = l.header(&s[..], n);
     write::put(l, s, n, 0, h.height + 1);
@@ -108,8 +108,8 @@ fn raise(l: Layout, s: &mut [u64], n: NodeNo, copy: NodeNo, start: RowID, top: N
 // The root's copy, which ends where the page begins, and a path of the other nodes become the root's two entries.
 pub fn split_root(l: Layout, s: &mut [u64], n: NodeNo, new: NewPage, nodes: [NodeNo; 32], k: usize)
     requires { ⌜ Fits l (now s) ⌝ }
-    requires { ⌜ (n .0 < l .pool) × (height (l .capacity) (now s) (n .0) ≤ 31) × (2 ≤ k) × (k ≤ 32) × Inside (l .pool) (listed nodes 0 k) × (n .0 ≢ numberAt nodes 0) ⌝ }
-    ensures { λ _. ⌜ now (s .exit) ≡ splitRoot (l .capacity) (now (s .entry)) (n .0) (new .start .0) (new .end .0) (new .page .0) (listed nodes 0 k) ⌝ }
+    requires { ⌜ (n .0 < l .pool) × (height (shapeOf l) (now s) (n .0) ≤ 31) × (2 ≤ k) × (k ≤ 32) × Inside (l .pool) (listed nodes 0 k) × (n .0 ≢ numberAt nodes 0) ⌝ }
+    ensures { λ _. ⌜ now (s .exit) ≡ splitRoot (shapeOf l) (now (s .entry)) (n .0) (new .start .0) (new .end .0) (new .page .0) (listed nodes 0 k) ⌝ }
 {
     let copy = nodes[0];
     let top = nodes[1];

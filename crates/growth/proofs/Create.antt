@@ -1,21 +1,22 @@
 -- A created store is well-formed: node 0 an empty root leaf, the chain 1, 2, … P − 1.
 use Prim.Native.Nat.{ℕ, zero, suc, _+_, _-_, _<_, _≤_}
 use mathlib.Core.List.{List, [], _∷_, _++_}
-use mathlib.Core.Bool.{true, _&&_}
+use mathlib.Core.Bool.{true}
 use mathlib.Core.Path.{_≡_, refl, sym, ap, _∙_, subst}
 use native.Mathlib.Omega.{arith}
 use lib.ListN.{length, drop}
 use lib.Seq.{sets, sets-eq, length-sets}
-use lib.Dec.{leb, ltb, eqb, leb→le, eqb→eq}
+use lib.Dec.{leb, ltb, eqb}
 use borrow.Author.Tests.{eqb-true, eqb-false, eq-eqb, le-leb, lt-ltb, ltb-true, ltb-false, leb-true}
-use Rattle.model.specs.Words.{pick, word, root, capacityOk, poolOk, storeLength, part, put, emptied, height, count, start, end, Header, NONE, rowLimit, freeMark}
+use Rattle.model.specs.Words.{Shape, pick, word, root, sized, part, put, emptied, height, count, start, end, Header, NONE, rowLimit, freeMark}
 use Rattle.model.specs.Tree.{pairsFrom, level, Open}
 use Rattle.model.specs.Reading.{occ, inPairs, nodes, entries}
 use Rattle.model.specs.Refusals.{result, refused}
 use Rattle.model.specs.WellFormed.{Chain}
 use Rattle.model.specs.Create.{chained, newHeader, newStore, create}
-use Rattle.model.proofs.Tests.{by-test, and-l, and-r, holds}
+use Rattle.model.proofs.Tests.{by-test}
 use Rattle.model.proofs.Words.{header-at, put-header, put-same, put-other, put-word, put-length}
+use Rattle.model.proofs.Header.{sized-header, header-sized}
 use Rattle.model.proofs.Frame.{Same, occ-self, occ-nil, nodes-self}
 use Rattle.model.proofs.Once.{occ-other}
 use Rattle.model.proofs.Writes.{occ-cons, put-keeps, emptied-length, emptied-word}
@@ -50,11 +51,11 @@ among-numbers m n (suc k) a b =
 
 -- The tree of an empty root -----------------------------------------------------------------------------
 
-new-nodes : (C : ℕ) (v : List ℕ) (m : ℕ) → count C v 0 ≡ 0 → occ m (nodes 1 (level C v 1 0)) ≡ occ m (0 ∷ [])
+new-nodes : (C : Shape) (v : List ℕ) (m : ℕ) → count C v 0 ≡ 0 → occ m (nodes 1 (level C v 1 0)) ≡ occ m (0 ∷ [])
 unfolding pairsFrom inPairs occ
 new-nodes C v m z = omega (arith, nodes-self C v 0 0 m, ap (λ (k : ℕ). occ m (inPairs (nodes 0) (pairsFrom C v (level C v 0) 0 0 k))) z)
 
-covers : (C P : ℕ) (v : List ℕ) (m : ℕ) → 1 ≤ P → count C v 0 ≡ 0 → occ m (nodes 1 (level C v 1 0)) + occ m (numbers 1 (P - 1)) ≡ pick (ltb m P) 1 0
+covers : (C : Shape) (P : ℕ) (v : List ℕ) (m : ℕ) → 1 ≤ P → count C v 0 ≡ 0 → occ m (nodes 1 (level C v 1 0)) + occ m (numbers 1 (P - 1)) ≡ pick (ltb m P) 1 0
 covers C P v m p z =
     by-test (eqb m 0)
     (λ t. let e = eqb-true m 0 t in
@@ -67,7 +68,7 @@ covers C P v m p z =
 -- The writes --------------------------------------------------------------------------------------------
 
 -- the words of an empty leaf
-module _ (C P : ℕ) (w : List ℕ) (hd : Header C P w) (n s : ℕ) (inside : n < P) where
+module _ (C : Shape) (P : ℕ) (w : List ℕ) (hd : Header (C .cap) P w) (n s : ℕ) (inside : n < P) where
   record Emptied : Type 0 where
     high : height C (emptied C w n s) n ≡ 0
     none : count C (emptied C w n s) n ≡ 0
@@ -87,7 +88,7 @@ module _ (C P : ℕ) (w : List ℕ) (hd : Header C P w) (n s : ℕ) (inside : n 
         ends = put-same C P _ h₂ n 3 NONE inside (omega arith);
       }
 
-module _ (C : ℕ) where
+module _ (C : Shape) where
   -- one node of the chain
   abbrev link : List ℕ → ℕ → List ℕ
   link w n = put C (put C w n 0 freeMark) n 1 (n + 1)
@@ -108,7 +109,7 @@ module _ (C : ℕ) where
   chained-keeps w n (suc k) m l j b =
       put-keeps C w n m 0 _ (omega arith) (omega arith) j b ∙ put-keeps C _ n m 1 _ (omega arith) (omega arith) j b ∙ chained-keeps (link w n) (n + 1) k m (omega arith) j b
 
-  chained-chain : (P : ℕ) (w : List ℕ) (n k : ℕ) → n + k ≡ P → Header C P w → Chain C P (chained C w n k) n (numbers n k)
+  chained-chain : (P : ℕ) (w : List ℕ) (n k : ℕ) → n + k ≡ P → Header (C .cap) P w → Chain C P (chained C w n k) n (numbers n k)
   unfolding chained Chain numbers
   chained-chain P w n zero e hd = omega arith
   chained-chain P w n (suc k) e hd =
@@ -126,48 +127,37 @@ module _ (C : ℕ) where
 
 -- The call ----------------------------------------------------------------------------------------------
 
-module _ (C P : ℕ) (w : List ℕ) (s : ℕ) where
+module _ (C : Shape) (P : ℕ) (w : List ℕ) (s : ℕ) where
   -- what an acceptance tells
   record Accepted : Type 0 where
-    header : Header C P w
+    header : Header (C .cap) P w
     low : s ≤ rowLimit
-    words : create w C P s .words ≡ newStore C P s w
+    words : create (C .slots) w (C .cap) P s .words ≡ newStore C P s w
 
-  header-of : (capacityOk C && poolOk P && eqb (length w) (storeLength C P)) ≡ true → Header C P w
-  header-of e =
-      let t = holds (capacityOk C && poolOk P && eqb (length w) (storeLength C P)) e in
-      record {
-        cap-low = leb→le 2 C (search (and-l, and-r) depth 8);
-        cap-high = leb→le C 4094 (search (and-l, and-r) depth 8);
-        pool-low = leb→le 1 P (search (and-l, and-r) depth 8);
-        pool-high = leb→le P 65535 (search (and-l, and-r) depth 8);
-        long = eqb→eq (length w) (storeLength C P) (search (and-l, and-r) depth 8);
-      }
-
-  accepted : create w C P s .answer ≡ result [] → Accepted
+  accepted : create (C .slots) w (C .cap) P s .answer ≡ result [] → Accepted
   unfolding create
   accepted a =
-      by-test (capacityOk C && poolOk P && eqb (length w) (storeLength C P))
+      by-test (sized (C .cap) P (length w))
       (λ t. by-test (leb s rowLimit)
-      (λ u. record { header = header-of t; low = leb-true s rowLimit u; words = rw (t, u) })
+      (λ u. record { header = sized-header (C .cap) P w t; low = leb-true s rowLimit u; words = rw (t, u) })
       (λ u. let e : refused 4 0 ≡ result [] = rw (t, u) at a in let z : _≡_ {A = ℕ} 0 1 = cc in absurd (omega arith)))
       (λ t. let e : refused 1 0 ≡ result [] = rw t at a in let z : _≡_ {A = ℕ} 0 1 = cc in absurd (omega arith))
 
-  module _ (hd : Header C P w) where
+  module _ (hd : Header (C .cap) P w) where
     -- the first words
     head : List ℕ
-    head = sets w 0 (newHeader C P)
+    head = sets w 0 (newHeader (C .cap) P)
 
-    head-header : Header C P head
+    head-header : Header (C .cap) P head
     unfolding head
-    head-header = header-at C P w head hd (length-sets w 0 (newHeader C P))
+    head-header = header-at (C .cap) P w head hd (length-sets w 0 (newHeader (C .cap) P))
 
     u : List ℕ
     u = emptied C head 0 s
 
-    u-header : Header C P u
+    u-header : Header (C .cap) P u
     unfolding u
-    u-header = header-at C P head u head-header (emptied-length C head 0 s)
+    u-header = header-at (C .cap) P head u head-header (emptied-length C head 0 s)
 
     v : List ℕ
     v = chained C u 1 (P - 1)
@@ -176,9 +166,9 @@ module _ (C P : ℕ) (w : List ℕ) (s : ℕ) where
     unfolding newStore v u head
     v-new = refl
 
-    v-word : (i : ℕ) → i < 8 → word v i ≡ word (newHeader C P ++ drop 8 w) i
+    v-word : (i : ℕ) → i < 8 → word v i ≡ word (newHeader (C .cap) P ++ drop 8 w) i
     unfolding v u head
-    v-word i l = chained-word C u 1 (P - 1) i l ∙ emptied-word C head 0 s i l ∙ ap (λ (z : List ℕ). word z i) (sets-eq (newHeader C P) w 0 (omega (arith, hd .long)))
+    v-word i l = chained-word C u 1 (P - 1) i l ∙ emptied-word C head 0 s i l ∙ ap (λ (z : List ℕ). word z i) (sets-eq (newHeader (C .cap) P) w 0 (omega (arith, hd .long)))
 
     -- node 0 is an empty leaf
     v-empty : (j : ℕ) → j < 4 → part C v 0 j ≡ part C u 0 j
@@ -211,7 +201,7 @@ module _ (C P : ℕ) (w : List ℕ) (s : ℕ) where
         record {
           capacity-is = v-word 0 (omega arith);
           pool-is = v-word 1 (omega arith);
-          header = header-at C P u v u-header (chained-length C u 1 (P - 1));
+          header = header-at (C .cap) P u v u-header (chained-length C u 1 (P - 1));
           whole = blank (new-blank l);
           high = omega arith;
           chain = subst (λ (n : ℕ). Chain C P v n (numbers 1 (P - 1))) (sym (v-word 3 (omega arith))) (chained-chain C P u 1 (P - 1) (omega (arith, hd .pool-low)) u-header);
@@ -220,22 +210,22 @@ module _ (C P : ℕ) (w : List ℕ) (s : ℕ) where
         }
 
   -- the law
-  pub create-formed : create w C P s .answer ≡ result [] → Formed C P (create w C P s .words) 0 s (numbers 1 (P - 1))
+  pub create-formed : create (C .slots) w (C .cap) P s .answer ≡ result [] → Formed C P (create (C .slots) w (C .cap) P s .words) 0 s (numbers 1 (P - 1))
   create-formed a =
       let A = accepted a in
       subst (λ (z : List ℕ). Formed C P z 0 s (numbers 1 (P - 1))) (sym (A .words ∙ v-new (A .header))) (new-formed (A .header) (A .low))
 
-  pub create-empty : create w C P s .answer ≡ result [] → entries 1 (treeOf C (create w C P s .words) 0) s Open ≡ []
+  pub create-empty : create (C .slots) w (C .cap) P s .answer ≡ result [] → entries 1 (treeOf C (create (C .slots) w (C .cap) P s .words) 0) s Open ≡ []
   create-empty a =
       let A = accepted a in
       subst (λ (z : List ℕ). entries 1 (treeOf C z 0) s Open ≡ []) (sym (A .words ∙ v-new (A .header)))
       (blank-entries C P (v (A .header)) 0 s (new-blank (A .header) (A .low)))
 
   -- it is accepted where C, P, the length and the start fit
-  pub create-accepts : Header C P w → s ≤ rowLimit → create w C P s .answer ≡ result []
+  pub create-accepts : Header (C .cap) P w → s ≤ rowLimit → create (C .slots) w (C .cap) P s .answer ≡ result []
   unfolding create
   create-accepts hd l =
-      rw (le-leb 2 C (hd .cap-low), le-leb C 4094 (hd .cap-high), le-leb 1 P (hd .pool-low), le-leb P 65535 (hd .pool-high), eq-eqb (length w) (storeLength C P) (hd .long), le-leb s rowLimit l)
+      rw (header-sized (C .cap) P w hd, le-leb s rowLimit l)
 
-  pub create-fits : create w C P s .answer ≡ result [] → Header C P w × (s ≤ rowLimit)
+  pub create-fits : create (C .slots) w (C .cap) P s .answer ≡ result [] → Header (C .cap) P w × (s ≤ rowLimit)
   create-fits a = let A = accepted a in (A .header, A .low)

@@ -5,7 +5,7 @@ use mathlib.Core.Path.{_≡_, refl, sym, ap, _∙_}
 use native.Mathlib.Omega.{arith}
 use lib.ListN.{length}
 use borrow.Author.Tests.{eq-eqb, ne-eqb}
-use Rattle.model.specs.Words.{root, count, end, row, child}
+use Rattle.model.specs.Words.{Shape, root, count, end, row, child}
 use Rattle.model.specs.Tree.{Limit, Open, Below, Level, level, next, last, overPairs, AllSound}
 use Rattle.model.specs.Reading.{Entry, entries, toRight}
 use Rattle.model.specs.Append.{appendStart}
@@ -13,7 +13,7 @@ use Rattle.model.proofs.Frame.{length-pairs}
 use Rattle.formed.specs.Formed.{Blank, Whole, blank, held, treeOf}
 use Rattle.formed.proofs.Clean.{well-sound}
 use Rattle.growth.specs.Needed.{entriesEnd}
-use Rattle.growth.proofs.Shape.{AtLast, rightAt}
+use Rattle.growth.proofs.Right.{AtLast, rightAt}
 use Rattle.growth.proofs.Last.{at-child, last-sound}
 use Rattle.growth.proofs.Edge.{right-some}
 
@@ -34,7 +34,7 @@ page-ends : (x r q e : ℕ) → entriesEnd q (entries 0 x r (Below e)) ≡ e
 unfolding entries entriesEnd
 page-ends x r q e = refl
 
-module _ (C P : ℕ) (w : List ℕ) where
+module _ (C : Shape) (P : ℕ) (w : List ℕ) where
   -- the entries of a tree end with its right leaf
   tree-ends : (h n r i q : ℕ) (c b : Limit) → AllSound C P (suc h) (level C w (suc h) n) r c → entriesEnd q (entries (suc h) (level C w (suc h) n) i b) ≡ end C w (rightAt C w h n)
   unfolding entries last rightAt level
@@ -49,24 +49,24 @@ module _ (C P : ℕ) (w : List ℕ) where
       (at-child C P w (suc h) n r c g R (λ k z. tree-ends h m (row C w n (toRight C w n)) k z c b (last-sound C P w (suc h) n r c g))) q
 
 -- an empty root has no pairs
-pub blank-count : (C P : ℕ) (w : List ℕ) (h r : ℕ) → Blank P h (treeOf C w h) r → count C w (root w) ≡ 0
+pub blank-count : (C : Shape) (P : ℕ) (w : List ℕ) (h r : ℕ) → Blank P h (treeOf C w h) r → count C w (root w) ≡ 0
 unfolding level
 blank-count C P w h r b = sym (length-pairs C w (level C w h) (root w) 0 (count C w (root w))) ∙ ap length (b .none)
 
-pub blank-entries : (C P : ℕ) (w : List ℕ) (h r : ℕ) → Blank P h (treeOf C w h) r → entries (suc h) (treeOf C w h) r Open ≡ []
+pub blank-entries : (C : Shape) (P : ℕ) (w : List ℕ) (h r : ℕ) → Blank P h (treeOf C w h) r → entries (suc h) (treeOf C w h) r Open ≡ []
 unfolding entries overPairs level
 blank-entries C P w h r b = ap (λ ks. overPairs (entries h) ks (last h (end C w (root w)) Open)) (b .none)
 
-blank-start : (C P : ℕ) (w : List ℕ) (h r : ℕ) → Blank P h (treeOf C w h) r → appendStart C w (root w) ≡ r
+blank-start : (C : Shape) (P : ℕ) (w : List ℕ) (h r : ℕ) → Blank P h (treeOf C w h) r → appendStart C w (root w) ≡ r
 unfolding appendStart level
 blank-start C P w h r b = rw (eq-eqb (count C w (root w)) 0 (blank-count C P w h r b)) (b .begin)
 
-pub blank-ends : (C P : ℕ) (w : List ℕ) (h r : ℕ) → Blank P h (treeOf C w h) r → entriesEnd r (entries (suc h) (treeOf C w h) r Open) ≡ r
+pub blank-ends : (C : Shape) (P : ℕ) (w : List ℕ) (h r : ℕ) → Blank P h (treeOf C w h) r → entriesEnd r (entries (suc h) (treeOf C w h) r Open) ≡ r
 unfolding entriesEnd
 blank-ends C P w h r b = ap (entriesEnd r) (blank-entries C P w h r b)
 
 -- the law
-pub start-ends : (C P : ℕ) (w : List ℕ) (h r : ℕ) → Whole C P h (treeOf C w h) r → appendStart C w (rightAt C w h (root w)) ≡ entriesEnd r (entries (suc h) (treeOf C w h) r Open)
+pub start-ends : (C : Shape) (P : ℕ) (w : List ℕ) (h r : ℕ) → Whole C P h (treeOf C w h) r → appendStart C w (rightAt C w h (root w)) ≡ entriesEnd r (entries (suc h) (treeOf C w h) r Open)
 unfolding appendStart rightAt
 start-ends C P w h r (held g) =
     let n = root w in

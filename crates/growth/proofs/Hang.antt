@@ -7,7 +7,7 @@ use native.Mathlib.Omega.{arith}
 use native.Mathlib.Nat.{zero-add}
 use native.Mathlib.Numerals.{add-one}
 use lib.ListN.{length}
-use Rattle.model.specs.Words.{word, part, put, added, height, count, start, end, row, child, rowPlace, childPlace, nodeSize, Header}
+use Rattle.model.specs.Words.{Shape, word, part, put, added, height, count, start, end, row, child, rowPlace, childPlace, nodeSize, Header}
 use Rattle.model.specs.Tree.{Limit, Level, level, last, AllSound}
 use Rattle.model.specs.Reading.{occ, nodes, toRight}
 use Rattle.model.specs.Append.{topOf, newPath, hang}
@@ -16,12 +16,13 @@ use Rattle.model.proofs.Frame.{Same, occ-self, nodes-self, kept}
 use Rattle.model.proofs.Once.{own, lower, some-pairs}
 use Rattle.model.proofs.Writes.{pairs-snoc, pairs-same, put-keeps, added-length, added-word, added-count, added-row, added-child, added-part, added-keeps}
 use Rattle.formed.proofs.Clean.{sound-narrow}
-use Rattle.growth.proofs.Shape.{Inside, Distinct, stalk, endAt, up, hung, rightAt}
+use Rattle.growth.specs.Grown.{pathTree, endAt, up, hung}
+use Rattle.growth.proofs.Right.{Inside, Distinct, rightAt}
 use Rattle.growth.proofs.Last.{same-but-last, few-pairs, child-sound, last-sound, alone, below-child, right-in}
 use Rattle.growth.proofs.Fresh.{path-word, path-header, path-keeps, path-level}
 
 -- what hanging c in node n, of height p, does to the words; ns are the nodes taken
-pub record Hangs (C : ℕ) (w v : List ℕ) (n p s e c : ℕ) (ns : List ℕ) : Type 0 where
+pub record Hangs (C : Shape) (w v : List ℕ) (n p s e c : ℕ) (ns : List ℕ) : Type 0 where
   pub other : (m : ℕ) → m ≢ n → occ m ns ≡ 0 → Same C w v m
   pub high : height C v n ≡ height C w n
   pub begin : start C v n ≡ start C w n
@@ -32,28 +33,28 @@ pub record Hangs (C : ℕ) (w v : List ℕ) (n p s e c : ℕ) (ns : List ℕ) : 
   pub low : row C v n (count C w n) ≡ s
   pub leads : child C v n (count C w n) ≡ c
 
-pub hang-word : (C : ℕ) (w : List ℕ) (n s e x : ℕ) (ns : List ℕ) (i : ℕ) → i < 8 → word (hang C w n s e x ns) i ≡ word w i
+pub hang-word : (C : Shape) (w : List ℕ) (n s e x : ℕ) (ns : List ℕ) (i : ℕ) → i < 8 → word (hang C w n s e x ns) i ≡ word w i
 unfolding hang
 hang-word C w n s e x [] i l = put-word C _ n 3 e i l ∙ added-word C w n s x i l
 hang-word C w n s e x (m ∷ ns) i l = path-word C s e x (added C w n s m) (m ∷ ns) i l ∙ added-word C w n s m i l
 
-module _ (C P : ℕ) (w : List ℕ) (hd : Header C P w) (n s e x : ℕ) where
-  added-header : (m : ℕ) → Header C P (added C w n s m)
-  added-header m = header-at C P w (added C w n s m) hd (added-length C w n s m)
+module _ (C : Shape) (P : ℕ) (w : List ℕ) (hd : Header (C .cap) P w) (n s e x : ℕ) where
+  added-header : (m : ℕ) → Header (C .cap) P (added C w n s m)
+  added-header m = header-at (C .cap) P w (added C w n s m) hd (added-length C w n s m)
 
-  pub hang-header : (ns : List ℕ) → Header C P (hang C w n s e x ns)
+  pub hang-header : (ns : List ℕ) → Header (C .cap) P (hang C w n s e x ns)
   unfolding hang
   hang-header [] = put-header C P _ (added-header x) n 3 e
   hang-header (m ∷ ns) = path-header C s e x P (added C w n s m) (m ∷ ns) (added-header m)
 
-  pub hang-path : (ns : List ℕ) → Inside P ns → Distinct ns → level C (hang C w n s e x ns) (length ns) (topOf x ns) ≡ stalk s e x ns
-  unfolding hang topOf level stalk
+  pub hang-path : (ns : List ℕ) → Inside P ns → Distinct ns → level C (hang C w n s e x ns) (length ns) (topOf x ns) ≡ pathTree s e x ns
+  unfolding hang topOf level pathTree
   hang-path [] i d = refl
   hang-path (m ∷ ns) i d = path-level C s e x P (added C w n s m) (m ∷ ns) (added-header m) i d
 
-  module _ (inside : n < P) (space : count C w n < C) where
+  module _ (inside : n < P) (space : count C w n < C .cap) where
     -- a word of n that one more entry leaves
-    stays : (m k : ℕ) → k ≢ 1 → k ≢ rowPlace C (count C w n) → k ≢ childPlace C (count C w n) → part C (added C w n s m) n k ≡ part C w n k
+    stays : (m k : ℕ) → k ≢ 1 → k ≢ rowPlace (count C w n) → k ≢ childPlace (count C w n) → part C (added C w n s m) n k ≡ part C w n k
     stays m = added-part C w n s m P hd inside space
 
     pub hang-hangs : (ns : List ℕ) → occ n ns ≡ 0 → Hangs C w (hang C w n s e x ns) n (length ns) s e (topOf x ns) ns
@@ -67,32 +68,32 @@ module _ (C P : ℕ) (w : List ℕ) (hd : Header C P w) (n s e x : ℕ) where
           begin = q 2 (omega arith) ∙ stays x 2 (omega arith) (omega arith) (omega arith);
           ends = put-same C P u (added-header x) n 3 e inside (omega arith);
           counts = q 1 (omega arith) ∙ added-count C w n s x P hd inside space;
-          rows = λ j l. q (rowPlace C j) (omega arith) ∙ stays x (rowPlace C j) (omega arith) (omega arith) (omega arith);
-          children = λ j l. q (childPlace C j) (omega arith) ∙ stays x (childPlace C j) (omega arith) (omega arith) (omega arith);
-          low = q (rowPlace C (count C w n)) (omega arith) ∙ added-row C w n s x P hd inside space;
-          leads = q (childPlace C (count C w n)) (omega arith) ∙ added-child C w n s x P hd inside space;
+          rows = λ j l. q (rowPlace j) (omega arith) ∙ stays x (rowPlace j) (omega arith) (omega arith) (omega arith);
+          children = λ j l. q (childPlace j) (omega arith) ∙ stays x (childPlace j) (omega arith) (omega arith) (omega arith);
+          low = q (rowPlace (count C w n)) (omega arith) ∙ added-row C w n s x P hd inside space;
+          leads = q (childPlace (count C w n)) (omega arith) ∙ added-child C w n s x P hd inside space;
         }
     hang-hangs (m ∷ ns) z =
-        let c : 2 ≤ C = hd .cap-low in
+        let c : 2 ≤ C .cap = hd .cap-low in
         let u = added C w n s m in
         let k = path-keeps C s e x P u (m ∷ ns) (added-header m) in
-        let q : (j : ℕ) → j < nodeSize C → part C (newPath C u s e x (m ∷ ns)) n j ≡ part C u n j = λ j b. sym (k n z j b) in
+        let q : (j : ℕ) → j < nodeSize (C .cap) → part C (newPath C u s e x (m ∷ ns)) n j ≡ part C u n j = λ j b. sym (k n z j b) in
         record {
           other = λ j d o i b. added-keeps C w n s m P hd inside space j d i b ∙ k j o i b;
           high = q 0 (omega arith) ∙ stays m 0 (omega arith) (omega arith) (omega arith);
           begin = q 2 (omega arith) ∙ stays m 2 (omega arith) (omega arith) (omega arith);
           ends = q 3 (omega arith) ∙ stays m 3 (omega arith) (omega arith) (omega arith);
           counts = q 1 (omega arith) ∙ added-count C w n s m P hd inside space;
-          rows = λ j l. q (rowPlace C j) (omega arith) ∙ stays m (rowPlace C j) (omega arith) (omega arith) (omega arith);
-          children = λ j l. q (childPlace C j) (omega arith) ∙ stays m (childPlace C j) (omega arith) (omega arith) (omega arith);
-          low = q (rowPlace C (count C w n)) (omega arith) ∙ added-row C w n s m P hd inside space;
-          leads = q (childPlace C (count C w n)) (omega arith) ∙ added-child C w n s m P hd inside space;
+          rows = λ j l. q (rowPlace j) (omega arith) ∙ stays m (rowPlace j) (omega arith) (omega arith) (omega arith);
+          children = λ j l. q (childPlace j) (omega arith) ∙ stays m (childPlace j) (omega arith) (omega arith) (omega arith);
+          low = q (rowPlace (count C w n)) (omega arith) ∙ added-row C w n s m P hd inside space;
+          leads = q (childPlace (count C w n)) (omega arith) ∙ added-child C w n s m P hd inside space;
         }
 
 pub occ-absent : (m n : ℕ) (l : List ℕ) → occ n l ≡ 0 → 0 < occ m l → m ≢ n
 occ-absent m n l z p e = let q : occ m l ≡ 0 = rw e z in omega arith
 
-module _ (C P : ℕ) (w : List ℕ) where
+module _ (C : Shape) (P : ℕ) (w : List ℕ) where
   -- what lies below a node is not the node
   pub not-below : (h n r i m : ℕ) (b : Limit) → AllSound C P (suc h) (level C w (suc h) n) r b → i < count C w n → 0 < occ m (nodes h (level C w h (child C w n i))) → m ≢ n
   not-below h n r i m b q l z o =

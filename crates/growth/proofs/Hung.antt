@@ -6,7 +6,7 @@ use mathlib.Core.Path.{_≡_, refl, ap, _∙_, subst}
 use native.Mathlib.Omega.{arith}
 use lib.ListN.{length, length-append}
 use lib.Dec.{T, leb, ltb, eqb, lt→ltb, le→leb, eqb-refl}
-use Rattle.model.specs.Words.{NONE, rowLimit}
+use Rattle.model.specs.Words.{Shape, NONE, rowLimit}
 use Rattle.model.specs.Tree.{Limit, Open, Below, Level, next, last, overPairs, allPairs, meets, endSound, Under, AllSound}
 use Rattle.model.specs.Reading.{Entry, entries, occ, inPairs, nodes, endFits}
 use Rattle.model.specs.Append.{endOver}
@@ -15,7 +15,8 @@ use Rattle.model.proofs.Sound.{rises, rows, soundly, sound-of, sound-below}
 use Rattle.model.proofs.Frame.{occ-append}
 use Rattle.formed.specs.Well.{Well}
 use Rattle.formed.proofs.Clean.{well-sound}
-use Rattle.growth.proofs.Shape.{onLast, Tip, stalk, Inside, endAt, up, hung, Roomy}
+use Rattle.growth.specs.Grown.{onLast, pathTree, endAt, up, hung}
+use Rattle.growth.proofs.Right.{Tip, Inside, Roomy}
 use Rattle.growth.proofs.Lists.{or-l, all-snoc, all-close, all-on-last, at-both, over-snoc, over-bound, over-on-last, occ-on-last, length-on-last, rows-on-last, rows-to, rows-snoc}
 use Rattle.growth.proofs.Last.{occ-last}
 
@@ -24,7 +25,7 @@ unfolding last endAt
 last-end e zero old = refl
 last-end e (suc p) old = refl
 
-module _ (C P : ℕ) where
+module _ (C : Shape) (P : ℕ) where
   pub well-below : (h : ℕ) (t : Level h) (r : ℕ) (b : Limit) → Well C P h t r b → Under r b
   well-below h t r b g = sound-below C P h t r b (well-sound C P h t r b g)
 
@@ -113,34 +114,34 @@ module _ (C P : ℕ) where
         )
 
     -- a path of one-entry nodes
-    stalk-end : (ns : List ℕ) → T (endFits (length ns) Open (endOver e ns)) × T (endSound (length ns) Open (endOver e ns) s) × (last (length ns) (endOver e ns) Open ≡ last (length ns) e Open)
+    path-tree-end : (ns : List ℕ) → T (endFits (length ns) Open (endOver e ns)) × T (endSound (length ns) Open (endOver e ns) s) × (last (length ns) (endOver e ns) Open ≡ last (length ns) e Open)
     unfolding endFits endOver endSound last
-    stalk-end [] = (tt, leaf-end, refl)
-    stalk-end (n ∷ ns) = (tt, tt, refl)
+    path-tree-end [] = (tt, leaf-end, refl)
+    path-tree-end (n ∷ ns) = (tt, tt, refl)
 
-    pub stalk-well : (x : ℕ) (ns : List ℕ) → 1 ≤ C → Inside P ns → Well C P (length ns) (stalk s e x ns) s (last (length ns) e Open)
-    unfolding Well stalk last Under Inside allPairs rows rises next
-    stalk-well x [] c i = some
-    stalk-well x (n ∷ ns) c i =
-        let f = stalk-end ns in (
+    pub path-tree-well : (x : ℕ) (ns : List ℕ) → 1 ≤ C .cap → Inside P ns → Well C P (length ns) (pathTree s e x ns) s (last (length ns) e Open)
+    unfolding Well pathTree last Under Inside allPairs rows rises next
+    path-tree-well x [] c i = some
+    path-tree-well x (n ∷ ns) c i =
+        let f = path-tree-end ns in (
           lt→ltb n P (i .0),
-          sound-of C (length ns) (stalk s e x (n ∷ ns)) s Open (record { high = refl; many = c; begin = refl; rise = both (eqb s s) (endSound (length ns) Open (endOver e ns) s) (eqb-refl s) (f .1) }),
+          sound-of C (length ns) (pathTree s e x (n ∷ ns)) s Open (record { high = refl; many = c; begin = refl; rise = both (eqb s s) (endSound (length ns) Open (endOver e ns) s) (eqb-refl s) (f .1) }),
           f .0,
-          (rw (f .2) (stalk-well x ns c (i .1)), tt),
+          (rw (f .2) (path-tree-well x ns c (i .1)), tt),
         )
 
 -- entries and nodes of a path
 module _ (s e x : ℕ) where
-  pub stalk-entries : (ns : List ℕ) → entries (length ns) (stalk s e x ns) s (last (length ns) e Open) ≡ (record { low = s; high = Below e; page = x }) ∷ []
-  unfolding entries stalk last overPairs next endOver
-  stalk-entries [] = refl
-  stalk-entries (n ∷ []) = refl
-  stalk-entries (n ∷ m ∷ ns) = append-nil _ ∙ stalk-entries (m ∷ ns)
+  pub path-tree-entries : (ns : List ℕ) → entries (length ns) (pathTree s e x ns) s (last (length ns) e Open) ≡ (record { low = s; high = Below e; page = x }) ∷ []
+  unfolding entries pathTree last overPairs next endOver
+  path-tree-entries [] = refl
+  path-tree-entries (n ∷ []) = refl
+  path-tree-entries (n ∷ m ∷ ns) = append-nil _ ∙ path-tree-entries (m ∷ ns)
 
-  pub stalk-nodes : (m : ℕ) (ns : List ℕ) → occ m (nodes (length ns) (stalk s e x ns)) ≡ occ m ns
-  unfolding nodes stalk inPairs
-  stalk-nodes m [] = refl
-  stalk-nodes m (n ∷ ns) = rw append-nil (omega (arith, occ-append m (nodes (length ns) (stalk s e x ns)) (n ∷ []), occ-append m (n ∷ []) ns, stalk-nodes m ns))
+  pub path-tree-nodes : (m : ℕ) (ns : List ℕ) → occ m (nodes (length ns) (pathTree s e x ns)) ≡ occ m ns
+  unfolding nodes pathTree inPairs
+  path-tree-nodes m [] = refl
+  path-tree-nodes m (n ∷ ns) = rw append-nil (omega (arith, occ-append m (nodes (length ns) (pathTree s e x ns)) (n ∷ []), occ-append m (n ∷ []) ns, path-tree-nodes m ns))
 
 -- entries do not depend on what is next for a tree: a leaf has its own end
 pub entries-any : (h : ℕ) (t : Level (suc h)) (r q : ℕ) (b c : Limit) → entries (suc h) t r b ≡ entries (suc h) t q c

@@ -8,7 +8,7 @@ use native.Mathlib.Omega.{arith}
 use lib.ListN.{length, length-append}
 use lib.Dec.{ltb}
 use borrow.Author.Tests.{lt-ltb, le-leb, lt-leb, ne-eqb}
-use Rattle.model.specs.Words.{pick, word, root, freeHead, height, count, start, end, row, child, Header, rowLimit, maxHeight}
+use Rattle.model.specs.Words.{Shape, pick, word, root, freeHead, height, count, start, end, row, child, Header, rowLimit, maxHeight}
 use Rattle.model.specs.Tree.{Open, Below, Level, pairsFrom, level, last}
 use Rattle.model.specs.Reading.{Entry, entries, occ, inPairs, nodes}
 use Rattle.model.specs.WellFormed.{Chain}
@@ -21,9 +21,10 @@ use Rattle.formed.specs.Formed.{Blank, Whole, blank, held, treeOf, Formed}
 use Rattle.formed.proofs.Clean.{well-sound}
 use Rattle.growth.specs.Needed.{needed}
 use Rattle.growth.specs.Inserted.{Appended}
-use Rattle.growth.proofs.Shape.{Inside, Distinct, stalk, endAt, up, hung, Tip, parted, rightAt}
+use Rattle.growth.specs.Grown.{pathTree, endAt, up, hung, parted, Grown, begins, hangs, splits}
+use Rattle.growth.proofs.Right.{Inside, Distinct, Tip, rightAt}
 use Rattle.growth.proofs.Last.{few-pairs, right-in}
-use Rattle.growth.proofs.Hung.{hung-well, hung-entries, hung-nodes, entries-any, stalk-well, stalk-entries, stalk-nodes}
+use Rattle.growth.proofs.Hung.{hung-well, hung-entries, hung-nodes, entries-any, path-tree-well, path-tree-entries, path-tree-nodes}
 use Rattle.growth.proofs.Parted.{parted-well, parted-entries, parted-nodes}
 use Rattle.growth.proofs.Hang.{Hangs, hang-word, hang-header, hang-hangs, hang-path, hang-level, occ-absent}
 use Rattle.growth.proofs.Split.{split-word, split-header, split-path, split-splits, split-level}
@@ -36,13 +37,13 @@ at-most true = omega arith
 at-most false = omega arith
 
 -- nodes fs come from the chain, rest stays there
-record Before (C P : ℕ) (w : List ℕ) (h r k : ℕ) (fs rest : List ℕ) : Type 0 where
+record Before (C : Shape) (P : ℕ) (w : List ℕ) (h r k : ℕ) (fs rest : List ℕ) : Type 0 where
   formed : Formed C P w h r (fs ++ rest)
   many : length fs ≡ k
   chain : Chain C P w (past C w (freeHead w) k) rest
   inside : Inside P fs
 
-module _ (C P : ℕ) (w : List ℕ) (h r k : ℕ) (fs rest : List ℕ) (B : Before C P w h r k fs rest) where
+module _ (C : Shape) (P : ℕ) (w : List ℕ) (h r k : ℕ) (fs rest : List ℕ) (B : Before C P w h r k fs rest) where
   -- each once
   sums : (m : ℕ) → occ m (nodes (suc h) (treeOf C w h)) + occ m fs + occ m rest ≤ 1
   sums m = omega (arith, B .formed .cover m, at-most (ltb m P), occ-append m fs rest)
@@ -54,9 +55,9 @@ module _ (C P : ℕ) (w : List ℕ) (h r k : ℕ) (fs rest : List ℕ) (B : Befo
   apart m p = omega (arith, sums m)
 
 -- v holds tree t, of height a, made of that of w and the nodes fs
-module _ (C P : ℕ) (w v : List ℕ) (h r k s e x : ℕ) (fs rest : List ℕ) where
+module _ (C : Shape) (P : ℕ) (w v : List ℕ) (h r k s e x : ℕ) (fs rest : List ℕ) where
   record Makes (a : ℕ) (t : Level (suc a)) : Type 0 where
-    header : Header C P v
+    header : Header (C .cap) P v
     words : (i : ℕ) → i < 8 → word v i ≡ word w i
     made : level C v (suc a) (root w) ≡ t
     low : a ≤ maxHeight
@@ -65,6 +66,7 @@ module _ (C P : ℕ) (w v : List ℕ) (h r k s e x : ℕ) (fs rest : List ℕ) w
     all : (m : ℕ) → occ m (nodes (suc a) t) ≡ occ m (nodes (suc h) (treeOf C w h)) + occ m fs
     more : entries (suc a) t r Open ≡ entries (suc h) (treeOf C w h) r Open ++ ((record { low = s; high = Below e; page = x }) ∷ [])
     other : (m : ℕ) → occ m (nodes (suc h) (treeOf C w h)) ≡ 0 → occ m fs ≡ 0 → Same C w v m
+    grown : Grown s e x h (treeOf C w h) a t fs
 
   finish : Before C P w h r k fs rest → (a : ℕ) (t : Level (suc a)) → Makes a t → Appended C P w (taken C w v k) h r k s e x (fs ++ rest)
   finish B a t M =
@@ -93,6 +95,7 @@ module _ (C P : ℕ) (w v : List ℕ) (h r k s e x : ℕ) (fs rest : List ℕ) w
         tall = M .tall;
         grew = λ m. rw q (M .all m);
         more = rw q (M .more);
+        grown = subst (λ (y : Level (suc a)). Grown s e x h (treeOf C w h) a y fs) (sym q) (M .grown);
       }
 
 pub up-least : (p d : ℕ) → p ≤ up p d
@@ -100,15 +103,15 @@ up-least p zero = omega arith
 up-least p (suc d) = omega (arith, up-least p d)
 
 -- by cases of where the entry goes
-module _ (C P : ℕ) (w : List ℕ) (r k s e x : ℕ) (some : s < e) (most : e ≤ rowLimit) where
+module _ (C : Shape) (P : ℕ) (w : List ℕ) (r k s e x : ℕ) (some : s < e) (most : e ≤ rowLimit) where
   hang-case : (d : ℕ) (fs rest : List ℕ) → Before C P w (up (length fs) d) r k fs rest → Well C P (suc (up (length fs) d)) (treeOf C w (up (length fs) d)) r Open
-      → end C w (rightAt C w (up (length fs) d) (root w)) ≡ s → count C w (rightAt C w d (root w)) < C
+      → end C w (rightAt C w (up (length fs) d) (root w)) ≡ s → count C w (rightAt C w d (root w)) < C .cap
       → Appended C P w (taken C w (hang C w (rightAt C w d (root w)) s e x fs) k) (up (length fs) d) r k s e x (fs ++ rest)
   hang-case d fs rest B g ends space =
       let h = up (length fs) d in
       let n = root w in
       let m = rightAt C w d n in
-      let y = stalk s e x fs in
+      let y = pathTree s e x fs in
       let t = treeOf C w h in
       let v = hang C w m s e x fs in
       let hd = B .formed .header in
@@ -124,10 +127,11 @@ module _ (C P : ℕ) (w : List ℕ) (r k s e x : ℕ) (some : s < e) (most : e �
         made = hang-level C P w v s e (topOf x fs) fs d (length fs) n r Open y good a H (hang-path C P w hd m s e x fs (B .inside) (distinct C P w h r k fs rest B));
         low = B .formed .high;
         tall = inl (refl, omega (arith, B .many, up-least (length fs) d));
-        well = hung-well C P s e some most d (length fs) t r y g tip (room-at C P w d (length fs) n r Open good space) (stalk-well C P s e some most x fs (omega (arith, hd .cap-low)) (B .inside));
-        all = λ j. hung-nodes j d (length fs) t s e y tip ∙ ap (λ (z : ℕ). occ j (nodes (suc h) t) + z) (stalk-nodes s e x j fs);
-        more = hung-entries d (length fs) t r s e y tip ∙ ap (λ (z : List Entry). entries (suc h) t r Open ++ z) (stalk-entries s e x fs);
+        well = hung-well C P s e some most d (length fs) t r y g tip (room-at C P w d (length fs) n r Open good space) (path-tree-well C P s e some most x fs (omega (arith, hd .cap-low)) (B .inside));
+        all = λ j. hung-nodes j d (length fs) t s e y tip ∙ ap (λ (z : ℕ). occ j (nodes (suc h) t) + z) (path-tree-nodes s e x j fs);
+        more = hung-entries d (length fs) t r s e y tip ∙ ap (λ (z : List Entry). entries (suc h) t r Open ++ z) (path-tree-entries s e x fs);
         other = λ j z f. H .other j (λ o. occ-absent m j (nodes (suc h) t) z (i .0) (sym o)) f;
+        grown = hangs d fs t;
       })
 
   split-case : (c m : ℕ) (ms rest : List ℕ) → length ms < maxHeight → Before C P w (length ms) r k (c ∷ m ∷ ms) rest → Well C P (suc (length ms)) (treeOf C w (length ms)) r Open
@@ -138,7 +142,7 @@ module _ (C P : ℕ) (w : List ℕ) (r k s e x : ℕ) (some : s < e) (most : e �
       let h = length ms in
       let n = root w in
       let fs = c ∷ m ∷ ms in
-      let y = stalk s e x (m ∷ ms) in
+      let y = pathTree s e x (m ∷ ms) in
       let t = treeOf C w h in
       let v = splitRoot C w n s e x fs in
       let hd = B .formed .header in
@@ -156,14 +160,15 @@ module _ (C P : ℕ) (w : List ℕ) (r k s e x : ℕ) (some : s < e) (most : e �
         made = split-level C P w v n c s m (m ∷ ms) h r Open good a S y (split-path C w n s e x c (m ∷ ms) P hd (B .inside .1) (D .1));
         low = omega arith;
         tall = inr (refl, omega (arith, B .many));
-        well = parted-well C P s (omega arith) h t r c y (hd .cap-low) (B .inside .0) g tip (stalk-well C P s e some most x (m ∷ ms) (omega (arith, hd .cap-low)) (B .inside .1));
-        all = λ j. omega (arith, parted-nodes j h t s c y, stalk-nodes s e x j (m ∷ ms), occ-cons j c (m ∷ ms));
-        more = parted-entries h t r s c y tip ∙ ap (λ (l : List Entry). entries (suc h) t r Open ++ l) (stalk-entries s e x (m ∷ ms));
+        well = parted-well C P s (omega arith) h t r c y (hd .cap-low) (B .inside .0) g tip (path-tree-well C P s e some most x (m ∷ ms) (omega (arith, hd .cap-low)) (B .inside .1));
+        all = λ j. omega (arith, parted-nodes j h t s c y, path-tree-nodes s e x j (m ∷ ms), occ-cons j c (m ∷ ms));
+        more = parted-entries h t r s c y tip ∙ ap (λ (l : List Entry). entries (suc h) t r Open ++ l) (path-tree-entries s e x (m ∷ ms));
         other = λ j u f. S .other j (λ o. occ-absent n j (nodes (suc h) t) u i (sym o)) (not-first j c (m ∷ ms) f) (not-rest j c (m ∷ ms) f);
+        grown = splits c m ms t;
       })
 
-  blank-made : (n : ℕ) (v : List ℕ) → height C w n ≡ 0 → start C w n ≡ s → count C w n ≡ 0 → Hangs C w v n 0 s e x [] → level C v 1 n ≡ stalk s e x (n ∷ [])
-  unfolding level stalk endOver endAt pairsFrom
+  blank-made : (n : ℕ) (v : List ℕ) → height C w n ≡ 0 → start C w n ≡ s → count C w n ≡ 0 → Hangs C w v n 0 s e x [] → level C v 1 n ≡ pathTree s e x (n ∷ [])
+  unfolding level pathTree endOver endAt pairsFrom
   blank-made n v high from none H =
       let low₂ : row C v n 0 ≡ s = subst (λ (j : ℕ). row C v n j ≡ s) none (H .low) in
       let leads₂ : child C v n 0 ≡ x = subst (λ (j : ℕ). child C v n j ≡ x) none (H .leads) in
@@ -186,24 +191,25 @@ module _ (C P : ℕ) (w : List ℕ) (r k s e x : ℕ) (some : s < e) (most : e �
       let hd = B .formed .header in
       let none : count C w n ≡ 0 = blank-count C P w 0 r b in
       let H = hang-hangs C P w hd n s e x (b .inside) (omega (arith, hd .cap-low)) [] refl in
-      finish C P w v 0 r k s e x [] rest B 0 (stalk s e x (n ∷ []))
+      finish C P w v 0 r k s e x [] rest B 0 (pathTree s e x (n ∷ []))
       (record {
         header = hang-header C P w hd n s e x [];
         words = hang-word C w n s e x [];
         made = blank-made n v (b .high) (b .begin ∙ sym from) none H;
         low = omega arith;
         tall = inl (refl, omega (arith, B .many));
-        well = subst (λ (z : ℕ). Well C P 1 (stalk s e x (n ∷ [])) z Open) from (stalk-well C P s e some most x (n ∷ []) (omega (arith, hd .cap-low)) (one-inside n (b .inside)));
-        all = λ j. omega (arith, stalk-nodes s e x j (n ∷ []), blank-nodes n j none);
-        more = entries-any 0 (stalk s e x (n ∷ [])) r s Open Open ∙ stalk-entries s e x (n ∷ []) ∙ ap (λ (l : List Entry). l ++ ((record { low = s; high = Below e; page = x }) ∷ [])) (sym (blank-entries C P w 0 r b));
+        well = subst (λ (z : ℕ). Well C P 1 (pathTree s e x (n ∷ [])) z Open) from (path-tree-well C P s e some most x (n ∷ []) (omega (arith, hd .cap-low)) (one-inside n (b .inside)));
+        all = λ j. omega (arith, path-tree-nodes s e x j (n ∷ []), blank-nodes n j none);
+        more = entries-any 0 (pathTree s e x (n ∷ [])) r s Open Open ∙ path-tree-entries s e x (n ∷ []) ∙ ap (λ (l : List Entry). l ++ ((record { low = s; high = Below e; page = x }) ∷ [])) (sym (blank-entries C P w 0 r b));
         other = λ j z f. H .other j (λ o. occ-absent n j (nodes 1 (treeOf C w 0)) z (omega (arith, blank-nodes n n none, occ-self n)) (sym o)) f;
+        grown = begins (treeOf C w 0) (b .none);
       })
 
 -- the room that the words of a root of height h show
-abbrev pub spot : ℕ → List ℕ → ℕ → Room
+abbrev pub spot : Shape → List ℕ → ℕ → Room
 spot C w h = roomFrom C w h (root w) (record { node = root w; needed = h + 2 })
 
-module _ (C P : ℕ) (w : List ℕ) (h r s e x : ℕ) (ns : List ℕ) (F : Formed C P w h r ns) (some : s < e) (most : e ≤ rowLimit) where
+module _ (C : Shape) (P : ℕ) (w : List ℕ) (h r s e x : ℕ) (ns : List ℕ) (F : Formed C P w h r ns) (some : s < e) (most : e ≤ rowLimit) where
   before : (k : ℕ) (T : Taken C P w (freeHead w) k ns) → Before C P w h r k (firsts C w (freeHead w) k) (T .rest)
   before k T = record { formed = subst (Formed C P w h r) (T .whole) F; many = T .many; chain = T .chain; inside = T .inside }
 
@@ -237,7 +243,7 @@ module _ (C P : ℕ) (w : List ℕ) (h r s e x : ℕ) (ns : List ℕ) (F : Forme
       (subst (λ (a : ℕ). Before C P w a r p fs (T .rest) → Well C P (suc a) (treeOf C w a) r Open → end C w (rightAt C w a (root w)) ≡ s → Appended C P w v a r p s e x (fs ++ T .rest))
       j (λ B g₂ q₂. hang-case C P w r p s e x some most d fs (T .rest) B g₂ q₂ space) (before p T) g q))
 
-module _ (C P : ℕ) (w : List ℕ) (h r : ℕ) (ns : List ℕ) (F : Formed C P w h r ns) where
+module _ (C : Shape) (P : ℕ) (w : List ℕ) (h r : ℕ) (ns : List ℕ) (F : Formed C P w h r ns) where
   held-start : Well C P (suc h) (treeOf C w h) r Open → appendStart C w (rightAt C w h (root w)) ≡ end C w (rightAt C w h (root w))
   unfolding appendStart
   held-start g =
@@ -246,10 +252,10 @@ module _ (C P : ℕ) (w : List ℕ) (h r : ℕ) (ns : List ℕ) (F : Formed C P 
 
   pub blank-spot : Blank P h (treeOf C w h) r → spot C w h ≡ record { node = root w; needed = 0 }
   unfolding roomFrom
-  blank-spot b = rw (b .leaf, lt-ltb (count C w (root w)) C (omega (arith, blank-count C P w h r b, F .header .cap-low)))
+  blank-spot b = rw (b .leaf, lt-ltb (count C w (root w)) (C .cap) (omega (arith, blank-count C P w h r b, F .header .cap-low)))
 
 -- an empty root gets its first entry
-blank-keeps : (C P : ℕ) (w : List ℕ) (r : ℕ) (ns : List ℕ) → Formed C P w 0 r ns → (s e x : ℕ) → s < e → e ≤ rowLimit → Blank P 0 (treeOf C w 0) r → s ≡ r
+blank-keeps : (C : Shape) (P : ℕ) (w : List ℕ) (r : ℕ) (ns : List ℕ) → Formed C P w 0 r ns → (s e x : ℕ) → s < e → e ≤ rowLimit → Blank P 0 (treeOf C w 0) r → s ≡ r
     → Appended C P w (appendAt C w (root w) s e x (spot C w 0)) 0 r (spot C w 0 .needed) s e x ns
 unfolding appendAt firsts past level Inside
 blank-keeps C P w r ns F s e x some most b q =
@@ -257,7 +263,7 @@ blank-keeps C P w r ns F s e x some most b q =
     (blank-case C P w r 0 s e x some most ns (record { formed = F; many = refl; chain = F .chain; inside = tt }) b q)
 
 -- the law
-pub append-keeps : (C P : ℕ) (w : List ℕ) (h r : ℕ) (ns : List ℕ) → Formed C P w h r ns → (s e x : ℕ) → s ≡ appendStart C w (rightAt C w h (root w)) → s < e → e ≤ rowLimit
+pub append-keeps : (C : Shape) (P : ℕ) (w : List ℕ) (h r : ℕ) (ns : List ℕ) → Formed C P w h r ns → (s e x : ℕ) → s ≡ appendStart C w (rightAt C w h (root w)) → s < e → e ≤ rowLimit
     → spot C w h .needed ≤ length ns → (h < spot C w h .needed → h < maxHeight)
     → Appended C P w (appendAt C w (root w) s e x (spot C w h)) h r (spot C w h .needed) s e x ns
 append-keeps C P w h r ns F s e x q some most enough high = by-whole (F .whole)

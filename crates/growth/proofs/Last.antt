@@ -5,14 +5,15 @@ use mathlib.Core.Path.{_≡_, refl, ap, _∙_, subst}
 use native.Mathlib.Omega.{arith}
 use native.Mathlib.Nat.{zero-add}
 use lib.Dec.{ltb→lt}
-use Rattle.model.specs.Words.{height, count, start, end, row, child, rowPlace, childPlace}
+use Rattle.model.specs.Words.{Shape, height, count, start, end, row, child, rowPlace, childPlace}
 use Rattle.model.specs.Tree.{Limit, Open, Level, pairsFrom, level, next, last, allPairs, AllSound}
 use Rattle.model.specs.Reading.{occ, inPairs, nodes, toRight}
 use Rattle.model.proofs.Sound.{soundly}
 use Rattle.model.proofs.Frame.{Same, Narrow, occ-append, occ-self, occ-nil, nodes-self, occ-child, all-child, length-pairs}
 use Rattle.model.proofs.Writes.{pairs-snoc, pairs-same}
 use Rattle.model.proofs.Once.{some-pairs, once}
-use Rattle.growth.proofs.Shape.{AtLast, onLast, up, rightAt}
+use Rattle.growth.specs.Grown.{onLast, up}
+use Rattle.growth.proofs.Right.{AtLast, rightAt}
 
 module _ {K : Type 0} where
   pub on-last : (f : K → K) (ks : List (ℕ × K)) (k : ℕ × K) → onLast f (ks ++ (k ∷ [])) ≡ ks ++ ((k .0, f (k .1)) ∷ [])
@@ -39,13 +40,13 @@ module _ {K : Type 0} where
   all-last Q [] k b a = a .0
   all-last Q (x ∷ ks) k b a = all-last Q ks k b (a .1)
 
-pub last-apart : {K : Type 0} (C : ℕ) (w : List ℕ) (f : ℕ → K) (n k : ℕ) → 0 < k → pairsFrom C w f n 0 k ≡ pairsFrom C w f n 0 (k - 1) ++ ((row C w n (k - 1), f (child C w n (k - 1))) ∷ [])
+pub last-apart : {K : Type 0} (C : Shape) (w : List ℕ) (f : ℕ → K) (n k : ℕ) → 0 < k → pairsFrom C w f n 0 k ≡ pairsFrom C w f n 0 (k - 1) ++ ((row C w n (k - 1), f (child C w n (k - 1))) ∷ [])
 last-apart C w f n k p =
     let e : suc (k - 1) ≡ k = omega arith in
     subst (λ (j : ℕ). pairsFrom C w f n 0 j ≡ pairsFrom C w f n 0 (k - 1) ++ ((row C w n (k - 1), f (child C w n (k - 1))) ∷ [])) e (pairs-snoc C w f n 0 (k - 1) ∙ rw zero-add)
 
 -- a node whose words stay, and what lies below all its pairs but the last, with F of that below the last
-pub same-but-last : (C : ℕ) (w v : List ℕ) (g n : ℕ) (F : Level g → Level g) → Same C w v n → 0 < count C w n → count C w n ≤ C
+pub same-but-last : (C : Shape) (w v : List ℕ) (g n : ℕ) (F : Level g → Level g) → Same C w v n → 0 < count C w n → count C w n ≤ C .cap
     → ((i : ℕ) → i < count C w n - 1 → level C w g (child C w n i) ≡ level C v g (child C w n i))
     → level C v g (child C w n (toRight C w n)) ≡ F (level C w g (child C w n (toRight C w n)))
     → level C v (suc g) n ≡ record { number = n; height = height C w n; start = start C w n; end = end C w n; pairs = onLast F (pairsFrom C w (level C w g) n 0 (count C w n)) }
@@ -59,14 +60,14 @@ same-but-last C w v g n F o p u e f =
       last-apart C v (level C v g) n (count C w n) p,
       last-apart C w (level C w g) n (count C w n) p,
       on-last,
-      ← o (rowPlace C (count C w n - 1)) (omega arith),
-      ← o (childPlace C (count C w n - 1)) (omega arith),
+      ← o (rowPlace (count C w n - 1)) (omega arith),
+      ← o (childPlace (count C w n - 1)) (omega arith),
       f,
-      pairs-same C w v (level C w g) (level C v g) n n 0 (count C w n - 1) (λ j a b. (o (rowPlace C j) (omega arith), o (childPlace C j) (omega arith), e j (omega arith))),
+      pairs-same C w v (level C w g) (level C v g) n n 0 (count C w n - 1) (λ j a b. (o (rowPlace j) (omega arith), o (childPlace j) (omega arith), e j (omega arith))),
     )
 
-module _ (C P : ℕ) (w : List ℕ) where
-  pub few-pairs : (g n r : ℕ) (b : Limit) → AllSound C P (suc g) (level C w (suc g) n) r b → (count C w n ≤ C) × (n < P)
+module _ (C : Shape) (P : ℕ) (w : List ℕ) where
+  pub few-pairs : (g n r : ℕ) (b : Limit) → AllSound C P (suc g) (level C w (suc g) n) r b → (count C w n ≤ C .cap) × (n < P)
   unfolding AllSound level
   few-pairs g n r b q = (omega (arith, soundly C g (level C w (suc g) n) r b (q .1) .many, length-pairs C w (level C w g) n 0 (count C w n)), ltb→lt n P (q .0))
 

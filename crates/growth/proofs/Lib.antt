@@ -1,4 +1,4 @@
-pub mod Shape
+pub mod Right
 pub mod Lists
 pub mod Last
 pub mod Hung

@@ -11,7 +11,8 @@ use Rattle.model.specs.Reading.{occ, inPairs}
 use Rattle.model.proofs.Tests.{and-l, and-r, both}
 use Rattle.model.proofs.Sound.{rises, rows}
 use Rattle.model.proofs.Frame.{occ-append}
-use Rattle.growth.proofs.Shape.{AtLast, onLast}
+use Rattle.growth.specs.Grown.{onLast}
+use Rattle.growth.proofs.Right.{AtLast}
 
 pub or-l : (a b : Bool) → T a → T (a || b)
 or-l true b t = tt

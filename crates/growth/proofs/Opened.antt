@@ -7,7 +7,7 @@ use native.Mathlib.Omega.{arith}
 use lib.ListN.{length}
 use lib.Dec.{ltb}
 use borrow.Author.Tests.{le-ltb, le-leb, eq-eqb, ltb-true}
-use Rattle.model.specs.Words.{root, freeHead, freeCount, storeLength, height, count, row, child, maxHeight}
+use Rattle.model.specs.Words.{Shape, root, freeHead, freeCount, storeLength, height, count, row, child, maxHeight}
 use Rattle.model.specs.Tree.{Limit, Open, level, last, sound, AllSound}
 use Rattle.model.specs.Reading.{Reached, leaf, checked, descend, nextRow, rootLeaf, toRight}
 use Rattle.model.specs.Refusals.{headerOk}
@@ -19,10 +19,10 @@ use Rattle.model.proofs.Lookup.{not-empty, is-empty}
 use Rattle.formed.specs.Formed.{Blank, Whole, blank, held, treeOf, Formed}
 use Rattle.formed.proofs.Clean.{well-sound}
 use Rattle.formed.proofs.Bridge.{blank-empty}
-use Rattle.growth.proofs.Shape.{rightAt}
+use Rattle.growth.proofs.Right.{rightAt}
 use Rattle.growth.proofs.Last.{few-pairs, last-sound}
 
-module _ (C P : ℕ) (w : List ℕ) where
+module _ (C : Shape) (P : ℕ) (w : List ℕ) where
   -- a sound node is passed
   passed : (h m n r : ℕ) (b : Limit) (x : Reached) → AllSound C P (suc h) (level C w (suc h) n) r b → checked C P w h m n r b x ≡ x
   unfolding checked AllSound level
@@ -38,7 +38,7 @@ module _ (C P : ℕ) (w : List ℕ) where
       passed (suc h) m n r b _ g
       ∙ rw (le-ltb (i + 1) (count C w n) (omega (arith, some-pairs C P w (suc h) n r b g))) (right-leaf h n (child C w n i) (row C w n i) b (last-sound C P w (suc h) n r b g))
 
-module _ (C P : ℕ) (w : List ℕ) (h r : ℕ) where
+module _ (C : Shape) (P : ℕ) (w : List ℕ) (h r : ℕ) where
   -- the law
   pub root-leaf : h ≤ maxHeight → Whole C P h (treeOf C w h) r → rootLeaf (toRight C w) C P w (root w) ≡ leaf (rightAt C w h (root w)) Open
   unfolding rootLeaf rightAt

@@ -5,14 +5,15 @@ use mathlib.Core.Bool.{true, _&&_}
 use mathlib.Core.Path.{_≡_, refl, sym, ap, _∙_, subst}
 use native.Mathlib.Omega.{arith}
 use lib.Dec.{T, leb, ltb, eqb, lt→ltb, le→leb, eqb-refl}
-use Rattle.model.specs.Words.{NONE, rowLimit}
+use Rattle.model.specs.Words.{Shape, NONE, rowLimit}
 use Rattle.model.specs.Tree.{Limit, Open, Below, Level, next, last, overPairs, allPairs, meets, endSound, Under}
 use Rattle.model.specs.Reading.{Entry, entries, occ, inPairs, nodes, endFits}
 use Rattle.model.proofs.Tests.{both}
 use Rattle.model.proofs.Sound.{rises, rows, soundly, sound-of}
 use Rattle.model.proofs.Frame.{occ-append, occ-nil}
 use Rattle.formed.specs.Well.{Well}
-use Rattle.growth.proofs.Shape.{Tip, renamed, parted}
+use Rattle.growth.specs.Grown.{renamed, parted}
+use Rattle.growth.proofs.Right.{Tip}
 use Rattle.growth.proofs.Lists.{or-r, rows-to}
 use Rattle.growth.proofs.Hung.{well-below, sealed, tip-entries}
 
@@ -21,7 +22,7 @@ unfolding last
 last-below s zero = refl
 last-below s (suc h) = refl
 
-module _ (C P s : ℕ) (most : s ≤ rowLimit) where
+module _ (C : Shape) (P s : ℕ) (most : s ≤ rowLimit) where
   end-below : (h l : ℕ) → l < s → T (endSound h (Below s) s l)
   unfolding endSound meets
   end-below zero l u = both (ltb l s && leb s rowLimit) (eqb s s) (both (ltb l s) (leb s rowLimit) (lt→ltb l s u) (le→leb s rowLimit most)) (eqb-refl s)
@@ -49,7 +50,7 @@ module _ (C P s : ℕ) (most : s ≤ rowLimit) where
       )
 
   -- the law
-  pub parted-well : (h : ℕ) (t : Level (suc h)) (r c : ℕ) (y : Level (suc h)) → 2 ≤ C → c < P → Well C P (suc h) t r Open → Tip h t s → Well C P (suc h) y s Open
+  pub parted-well : (h : ℕ) (t : Level (suc h)) (r c : ℕ) (y : Level (suc h)) → 2 ≤ C .cap → c < P → Well C P (suc h) t r Open → Tip h t s → Well C P (suc h) y s Open
       → Well C P (suc (suc h)) (parted h t c s y) r Open
   unfolding Well parted endFits allPairs last next rows rises endSound Under
   parted-well h t r c y two i g tip q =

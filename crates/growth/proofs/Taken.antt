@@ -8,7 +8,7 @@ use native.Mathlib.Omega.{arith}
 use lib.ListN.{set, length, length-set}
 use lib.Seq.{getD-set-same, getD-set-other}
 use borrow.Author.Tests.{lt-ltb, le-leb, eq-eqb}
-use Rattle.model.specs.Words.{word, freeHead, freeCount, part, height, count, child, rowPlace, childPlace, Header, freeMark}
+use Rattle.model.specs.Words.{Shape, word, freeHead, freeCount, part, height, count, child, rowPlace, childPlace, Header, freeMark}
 use Rattle.model.specs.Tree.{level}
 use Rattle.model.specs.Reading.{occ}
 use Rattle.model.specs.WellFormed.{Chain}
@@ -17,9 +17,9 @@ use Rattle.model.proofs.Words.{set-part, header-at}
 use Rattle.model.proofs.Frame.{occ-append, occ-self}
 use Rattle.model.proofs.Writes.{pairs-same, occ-cons}
 use Rattle.formed.proofs.Chains.{chain-low}
-use Rattle.growth.proofs.Shape.{Inside, Distinct}
+use Rattle.growth.proofs.Right.{Inside, Distinct}
 
-module _ (C : ℕ) (w v : List ℕ) (k : ℕ) where
+module _ (C : Shape) (w v : List ℕ) (k : ℕ) where
   pub taken-part : (n j : ℕ) → part C (taken C w v k) n j ≡ part C v n j
   unfolding taken
   taken-part n j = set-part C (set v 3 _) 4 _ n j (omega arith) ∙ set-part C v 3 _ n j (omega arith)
@@ -29,10 +29,10 @@ module _ (C : ℕ) (w v : List ℕ) (k : ℕ) where
   unfolding taken
   taken-word i a b = getD-set-other (set v 3 _) 4 i _ 0 b ∙ getD-set-other v 3 i _ 0 a
 
-  module _ (P : ℕ) (hd : Header C P v) where
-    pub taken-header : Header C P (taken C w v k)
+  module _ (P : ℕ) (hd : Header (C .cap) P v) where
+    pub taken-header : Header (C .cap) P (taken C w v k)
     unfolding taken
-    taken-header = header-at C P v (taken C w v k) hd (simp length-set)
+    taken-header = header-at (C .cap) P v (taken C w v k) hd (simp length-set)
 
     pub taken-head : freeHead (taken C w v k) ≡ past C w (freeHead w) k
     unfolding taken
@@ -43,13 +43,13 @@ module _ (C : ℕ) (w v : List ℕ) (k : ℕ) where
     taken-free = getD-set-same (set v 3 (past C w (freeHead w) k)) 4 _ 0 (omega (arith, hd .long, length-set v 3 (past C w (freeHead w) k)))
 
 -- the same parts give the same tree
-pub all-parts : (C : ℕ) (w v : List ℕ) → ((n j : ℕ) → part C v n j ≡ part C w n j) → (h n : ℕ) → level C v h n ≡ level C w h n
+pub all-parts : (C : Shape) (w v : List ℕ) → ((n j : ℕ) → part C v n j ≡ part C w n j) → (h n : ℕ) → level C v h n ≡ level C w h n
 unfolding level
 all-parts C w v e zero n = refl
 all-parts C w v e (suc h) n =
-    rw (e n 0, e n 1, e n 2, e n 3, pairs-same C v w (level C v h) (level C w h) n n 0 (count C w n) (λ j a b. (e n (rowPlace C j), e n (childPlace C j), all-parts C w v e h (child C v n j))))
+    rw (e n 0, e n 1, e n 2, e n 3, pairs-same C v w (level C v h) (level C w h) n n 0 (count C w n) (λ j a b. (e n (rowPlace j), e n (childPlace j), all-parts C w v e h (child C v n j))))
 
-module _ (C P : ℕ) (w : List ℕ) where
+module _ (C : Shape) (P : ℕ) (w : List ℕ) where
   -- the first k of the nodes ns
   pub record Taken (n k : ℕ) (ns : List ℕ) : Type 0 where
     pub rest : List ℕ

@@ -85,8 +85,3 @@ pub told-answer : (w v : List ℕ) (a : Answer) → told w v a .answer ≡ a
 unfolding told
 told-answer w v (result l) = refl
 told-answer w v (refused c d) = refl
-
-pub told-refused : (w v : List ℕ) (a : Answer) (c d : ℕ) → a ≡ refused c d → told w v a .words ≡ w
-unfolding told
-told-refused w v (result l) c d e = let z : _≡_ {A = ℕ} 0 1 = cc in absurd (omega arith)
-told-refused w v (refused a b) c d e = refl

@@ -1,3 +1,4 @@
 pub mod Needed
+pub mod Grown
 pub mod Inserted
 pub mod Created

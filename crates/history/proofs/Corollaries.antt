@@ -1,18 +1,19 @@
--- What `histories` says of some answers by themselves, over all histories from an accepted create.
+-- What `histories` says of some answers by themselves, over all histories from a store that holds a ledger. After an
+-- accepted create it is the empty one (`create-law`).
 use Prim.Native.Nat.{ℕ, _≤_}
 use mathlib.Core.List.{List, []}
 use mathlib.Core.Path.{_≡_, refl, sym, ap, _∙_, subst}
 use mathlib.Core.Logic.{⊎-elim}
 use native.Mathlib.Omega.{arith}
 use lib.ListN.{length, replicate, length-replicate}
-use Rattle.model.specs.Words.{capacity}
-use Rattle.model.specs.Refusals.{result, refused}
-use Rattle.model.specs.Create.{create}
+use Rattle.model.specs.Words.{lent, capacity}
+use Rattle.model.specs.Refusals.{refused}
 use Rattle.model.specs.LeafWalk.{seek, pageEntry}
-use Rattle.model.specs.Ledger.{Ledger, emptyLedger, ledgerWalk}
+use Rattle.model.specs.Ledger.{Ledger, ledgerWalk}
+use Rattle.formed.specs.Holds.{Holds}
 use Rattle.cursor.specs.Walking.{leafCount}
 use Rattle.cursor.proofs.Walk.{gives-once}
-use Rattle.history.specs.Calls.{Lent, Call, Reply, reply, State, holding, closed, History, Place, run}
+use Rattle.history.specs.Calls.{Loan, Call, Reply, reply, State, holding, closed, History, Place, begin, run}
 use Rattle.history.specs.Laws.{Walks}
 use Rattle.history.specs.Histories.{Kept}
 use Rattle.history.proofs.Among.{result-not}
@@ -29,7 +30,7 @@ module _ (w : List ℕ) where
     least : 3 ≤ a
     shut : a ≡ 3 → s ≡ closed
 
-  fair : (s : State) → Kept w s → (m : Lent) (c : Call) (a d : ℕ) → reply w m c .answer ≡ refused a d → Fair s a
+  fair : (s : State) → Kept w s → (m : Loan) (c : Call) (a d : ℕ) → reply w m c .answer ≡ refused a d → Fair s a
   unfolding Kept reply
   fair (holding l) K m c a d e = record { least = omega (arith, K .above m c a d e); shut = λ z. absurd (omega (arith, K .above m c a d e)) }
   fair closed K m c a d e =
@@ -47,19 +48,19 @@ module _ (w : List ℕ) where
 
 -- Of all histories -----------------------------------------------------------------------------------------
 
-module _ (w : List ℕ) (C P s : ℕ) (accepted : create w C P s .answer ≡ result []) (cs : History) where
+module _ (w : List ℕ) (k : Ledger) (H : Holds lent w k) (cs : History) where
   abbrev here : Place
-  here = run (record { words = create w C P s .words; state = holding (emptyLedger s) }) cs
+  here = run (begin w k) cs
 
   -- refusals 1 and 2 never occur
-  pub never-one-two : (m : Lent) (c : Call) (a d : ℕ) → reply (here .words) m c .answer ≡ refused a d → 3 ≤ a
-  never-one-two m c a d e = fair (here .words) (here .state) (histories w C P s accepted cs) m c a d e .least
+  pub never-one-two : (m : Loan) (c : Call) (a d : ℕ) → reply (here .words) m c .answer ≡ refused a d → 3 ≤ a
+  never-one-two m c a d e = fair (here .words) (here .state) (histories w k H cs) m c a d e .least
 
   -- 3 after a release only
-  pub three-closed : (m : Lent) (c : Call) (d : ℕ) → reply (here .words) m c .answer ≡ refused 3 d → here .state ≡ closed
-  three-closed m c d e = fair (here .words) (here .state) (histories w C P s accepted cs) m c 3 d e .shut refl
+  pub three-closed : (m : Loan) (c : Call) (d : ℕ) → reply (here .words) m c .answer ≡ refused 3 d → here .state ≡ closed
+  three-closed m c d e = fair (here .words) (here .state) (histories w k H cs) m c 3 d e .shut refl
 
   -- "a whole walk equals the ledger if no call changes the store during it", and it has a step for each leaf
   pub whole-walk : (l : Ledger) → here .state ≡ holding l → (q : ℕ) → q ≤ l .start → (during : History) (ps : List (ℕ × ℕ)) (n : ℕ) → Walks (here .words) (seek q) during ps n
       → (ps ≡ ledgerWalk l) × (n ≡ leafCount (here .words))
-  whole-walk l e q h during ps n g = whole (here .words) l (subst (Kept (here .words)) e (histories w C P s accepted cs)) q h during ps n g
+  whole-walk l e q h during ps n g = whole (here .words) l (subst (Kept (here .words)) e (histories w k H cs)) q h during ps n g

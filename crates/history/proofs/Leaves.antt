@@ -7,7 +7,7 @@ use native.Mathlib.Omega.{arith}
 use lib.ListN.{length, length-append}
 use lib.Dec.{eqb, ltb}
 use borrow.Author.Tests.{eq-eqb, ne-eqb, ltb-true, ltb-false}
-use Rattle.model.specs.Words.{capacity, pool, root, height, count, start, end, row, child}
+use Rattle.model.specs.Words.{storeShape, lent, Shape, capacity, pool, root, height, count, start, end, row, child}
 use Rattle.model.specs.Tree.{Limit, Open, Below, pairsFrom, level, last, overPairs, next, AllSound}
 use Rattle.model.specs.Reading.{Entry, entries, leaf, rootLeaf, toRow}
 use Rattle.model.specs.WellFormed.{WellFormed, EmptyRoot, SoundRoot, emptyTree, soundTree}
@@ -32,7 +32,7 @@ use Rattle.history.specs.Laws.{leafEnd}
 
 -- The entries of a tree, leaf by leaf -----------------------------------------------------------------------
 
-module _ (C : ℕ) (w : List ℕ) where
+module _ (C : Shape) (w : List ℕ) where
   abbrev leafEntries : LeafAt → List Entry
   leafEntries x = overPairs (entries 0) (x .pairs) (Below (end C w (x .number)))
 
@@ -147,12 +147,12 @@ pub record Spot (w : List ℕ) (l : Ledger) (q : ℕ) : Type 0 where
   pub is : l .ranges ≡ before ++ (those ++ rest)
   pub n : ℕ
   pub b : Limit
-  pub reached : rootLeaf (toRow (capacity w) w q) (capacity w) (pool w) w (root w) ≡ leaf n b
-  pub begins-at : start (capacity w) w n ≡ endFrom (l .start) before
-  pub ends-at : end (capacity w) w n ≡ leafEnd (endFrom (l .start) before) those
-  pub pairs : pairsFrom (capacity w) w (λ (x : ℕ). x) n 0 (count (capacity w) w n) ≡ walkFrom (endFrom (l .start) before) those
-  pub many : count (capacity w) w n ≡ length those
-  pub few : count (capacity w) w n ≤ capacity w
+  pub reached : rootLeaf (toRow (storeShape lent w) w q) (storeShape lent w) (pool w) w (root w) ≡ leaf n b
+  pub begins-at : start (storeShape lent w) w n ≡ endFrom (l .start) before
+  pub ends-at : end (storeShape lent w) w n ≡ leafEnd (endFrom (l .start) before) those
+  pub pairs : pairsFrom (storeShape lent w) w (λ (x : ℕ). x) n 0 (count (storeShape lent w) w n) ≡ walkFrom (endFrom (l .start) before) those
+  pub many : count (storeShape lent w) w n ≡ length those
+  pub few : count (storeShape lent w) w n ≤ capacity w
   pub over : isLast b ≡ eqb (length rest) 0
   pub low : (before ≡ []) ⊎ (endFrom (l .start) before ≤ q)
   pub high : (rest ≡ []) ⊎ (q < leafEnd (endFrom (l .start) before) those)
@@ -163,9 +163,9 @@ unfolding entriesFrom
 no-ranges s [] e = refl
 no-ranges s (g ∷ gs) e = absurd (omega (arith, e))
 
-module _ (w : List ℕ) (l : Ledger) (H : Holds w l) (q : ℕ) where
-  abbrev C : ℕ
-  C = capacity w
+module _ (w : List ℕ) (l : Ledger) (H : Holds lent w l) (q : ℕ) where
+  abbrev C : Shape
+  C = storeShape lent w
 
   -- an empty root
   empty-spot : EmptyRoot C w (root w) → Spot w l q

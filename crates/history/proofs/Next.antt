@@ -8,7 +8,7 @@ use native.Mathlib.Omega.{arith}
 use lib.ListN.{length, drop}
 use lib.Dec.{ltb}
 use borrow.Author.Tests.{le-ltb, lt-ltb, ltb-true, ltb-false}
-use Rattle.model.specs.Words.{fill, capacity, count, start, end, row, child}
+use Rattle.model.specs.Words.{storeShape, lent, Shape, fill, count, start, end, row, child}
 use Rattle.model.specs.Tree.{pairsFrom}
 use Rattle.model.specs.Reading.{leaf}
 use Rattle.model.specs.Refusals.{Answer, result, refused}
@@ -21,21 +21,21 @@ use Rattle.formed.specs.Holds.{Holds}
 use Rattle.formed.proofs.Opens.{goes-on}
 use Rattle.model.proofs.Fill.{fill-is}
 use Rattle.listing.proofs.Filling.{length-records}
-use Rattle.history.specs.Calls.{Lent, Reply, nextLeaf, reply}
+use Rattle.history.specs.Calls.{Loan, withCursor, withRecords, Reply, nextLeaf, reply}
 use Rattle.history.specs.Laws.{leafEnd, GivesLeaf, NextLaw}
 use Rattle.history.proofs.Leaves.{Spot, spot}
 
 abbrev entryOf : ℕ × ℕ → PageEntry
 entryOf p = pageEntry (p .0) (p .1)
 
-records-are : (C : ℕ) (w : List ℕ) (n i k : ℕ) → records C w n i k ≡ map entryOf (pairsFrom C w (λ (x : ℕ). x) n i k)
+records-are : (C : Shape) (w : List ℕ) (n i k : ℕ) → records C w n i k ≡ map entryOf (pairsFrom C w (λ (x : ℕ). x) n i k)
 unfolding records pairsFrom
 records-are C w n i zero = refl
 records-are C w n i (suc k) = ap (λ (t : List PageEntry). pageEntry (row C w n i) (child C w n i) ∷ t) (records-are C w n (i + 1) k)
 
-module _ (w : List ℕ) (l : Ledger) (H : Holds w l) (m : Lent) where
-  abbrev C : ℕ
-  C = capacity w
+module _ (w : List ℕ) (l : Ledger) (H : Holds lent w l) (m : Loan) where
+  abbrev C : Shape
+  C = storeShape lent w
 
   abbrev c : RowPageIndexMemCursor
   c = m .cursor
@@ -46,17 +46,17 @@ module _ (w : List ℕ) (l : Ledger) (H : Holds w l) (m : Lent) where
   abbrev still : Answer → Stepped
   still a = record { answer = a; cursor = c; list = x }
 
-  pub next-short : length x < C → nextLeafOf w c x ≡ still (refused 13 C)
+  pub next-short : length x < C .cap → nextLeafOf lent w c x ≡ still (refused 13 (C .cap))
   unfolding nextLeafOf
-  next-short h = goes-on w (H .formed) still _ ∙ rw (lt-ltb (length x) C h)
+  next-short h = goes-on lent w (H .formed) still _ ∙ rw (lt-ltb (length x) (C .cap) h)
 
-  pub next-none : C ≤ length x → c .done ≡ true → nextLeafOf w c x ≡ still (result [])
+  pub next-none : C .cap ≤ length x → c .done ≡ true → nextLeafOf lent w c x ≡ still (result [])
   unfolding nextLeafOf
-  next-none h d = goes-on w (H .formed) still _ ∙ rw (le-ltb (length x) C h, d)
+  next-none h d = goes-on lent w (H .formed) still _ ∙ rw (le-ltb (length x) (C .cap) h, d)
 
-  pub next-leaf : C ≤ length x → c .done ≡ false → (S : Spot w l (c .«row_id» .0)) → nextLeafOf w c x ≡ given C w c x (leaf (S .n) (S .b))
+  pub next-leaf : C .cap ≤ length x → c .done ≡ false → (S : Spot w l (c .«row_id» .0)) → nextLeafOf lent w c x ≡ given C w c x (leaf (S .n) (S .b))
   unfolding nextLeafOf
-  next-leaf h d S = (goes-on w (H .formed) still _ ∙ rw (le-ltb (length x) C h, d)) ∙ ap (given C w c x) (S .reached)
+  next-leaf h d S = (goes-on lent w (H .formed) still _ ∙ rw (le-ltb (length x) (C .cap) h, d)) ∙ ap (given C w c x) (S .reached)
 
   -- what stands in the list afterwards
   listed : (n : ℕ) (ps : List (ℕ × ℕ)) → count C w n ≤ length x → pairsFrom C w (λ (y : ℕ). y) n 0 (count C w n) ≡ ps → fill x 0 (records C w n 0 (count C w n)) ≡ map entryOf ps ++ drop (count C w n) x
@@ -66,13 +66,13 @@ module _ (w : List ℕ) (l : Ledger) (H : Holds w l) (m : Lent) where
       ∙ ap (λ (j : ℕ). records C w n 0 k ++ drop j x) (length-records C w n 0 k)
       ∙ ap (λ (t : List PageEntry). t ++ drop k x) (records-are C w n 0 k ∙ ap (map entryOf) e)
 
-  pub gives-leaf : C ≤ length x → c .done ≡ false → GivesLeaf l m (reply w m nextLeaf)
+  pub gives-leaf : C .cap ≤ length x → c .done ≡ false → GivesLeaf l m (reply w m nextLeaf)
   unfolding reply given
   gives-leaf h d =
       let S = spot w l H (c .«row_id» .0) in
       let n = S .n in
       let s = endFrom (l .start) (S .before) in
-      let o : nextLeafOf w c x ≡ given C w c x (leaf n (S .b)) = next-leaf h d S in
+      let o : nextLeafOf lent w c x ≡ given C w c x (leaf n (S .b)) = next-leaf h d S in
       record {
         before = S .before;
         those = S .those;
@@ -96,7 +96,7 @@ module _ (w : List ℕ) (l : Ledger) (H : Holds w l) (m : Lent) where
       }
 
   abbrev asReply : Stepped → Reply
-  asReply o = record { answer = o .answer; words = w; lent = record { cursor = o .cursor; records = o .list; pages = m .pages } }
+  asReply o = record { answer = o .answer; words = w; loan = withRecords (withCursor m (o .cursor)) (o .list) }
 
   pub next-law : NextLaw w l m (reply w m nextLeaf)
   unfolding reply
@@ -108,11 +108,11 @@ module _ (w : List ℕ) (l : Ledger) (H : Holds w l) (m : Lent) where
       }
 
   -- 13, or accepted
-  pub next-decide : (reply w m nextLeaf ≡ record { answer = refused 13 C; words = w; lent = m }) ⊎ ((v : List ℕ) × (reply w m nextLeaf .answer ≡ result v))
+  pub next-decide : (reply w m nextLeaf ≡ record { answer = refused 13 (C .cap); words = w; loan = m }) ⊎ ((v : List ℕ) × (reply w m nextLeaf .answer ≡ result v))
   unfolding reply
   next-decide =
-      by-test (ltb (length x) C)
-      (λ t. inl (ap asReply (next-short (ltb-true (length x) C t))))
+      by-test (ltb (length x) (C .cap))
+      (λ t. inl (ap asReply (next-short (ltb-true (length x) (C .cap) t))))
       (λ t. by-test (c .done)
-      (λ d. inr ([], ap (λ (r : Stepped). r .answer) (next-none (ltb-false (length x) C t) d)))
-      (λ d. inr (_, gives-leaf (ltb-false (length x) C t) d .answer)))
+      (λ d. inr ([], ap (λ (r : Stepped). r .answer) (next-none (ltb-false (length x) (C .cap) t) d)))
+      (λ d. inr (_, gives-leaf (ltb-false (length x) (C .cap) t) d .answer)))

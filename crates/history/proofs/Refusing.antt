@@ -9,7 +9,7 @@ use native.Mathlib.Omega.{arith}
 use lib.ListN.{length, drop}
 use lib.Dec.{leb, ltb, eqb}
 use borrow.Author.Tests.{ltb-true, eqb-true}
-use Rattle.model.specs.Words.{pick, capacity, freeCount, rowLimit, maxHeight}
+use Rattle.model.specs.Words.{lent, pick, capacity, freeCount, rowLimit, maxHeight}
 use Rattle.model.specs.Refusals.{Answer, result, refused}
 use Rattle.model.specs.Append.{insertRowPage}
 use Rattle.model.specs.Prune.{pruneCheckpointPrefix}
@@ -21,7 +21,7 @@ use Rattle.growth.specs.Inserted.{verdict}
 use Rattle.ledger.specs.Sizes.{treeHeight, neededNodes}
 use Rattle.ledger.specs.Laws.{PruneLaw}
 use Rattle.ledger.proofs.Calls.{insert-law, prune-law}
-use Rattle.history.specs.Calls.{Lent, Call, append, lookup, prune, seekRow, nextLeaf, release, releaseEmpty, check, Reply, reply}
+use Rattle.history.specs.Calls.{Loan, Call, append, lookup, prune, seekRow, nextLeaf, release, releaseEmpty, check, Reply, reply}
 use Rattle.history.proofs.Releasing.{Decided, below, short, good, decide, DecidedEmpty, filled, bare, decide-empty}
 use Rattle.history.proofs.Next.{next-decide}
 use Rattle.history.proofs.Among.{result-not}
@@ -94,12 +94,12 @@ find-result s (g ∷ gs) q =
 
 -- Every call -----------------------------------------------------------------------------------------------
 
-module _ (w : List ℕ) (l : Ledger) (H : Holds w l) (m : Lent) where
+module _ (w : List ℕ) (l : Ledger) (H : Holds lent w l) (m : Loan) where
   abbrev still : ℕ → ℕ → Reply
-  still a d = record { answer = refused a d; words = w; lent = m }
+  still a d = record { answer = refused a d; words = w; loan = m }
 
   abbrev Fair : ℕ → ℕ → Type 0
-  Fair a d = Allowed (treeHeight w) (neededNodes w) (freeCount w) a d
+  Fair a d = Allowed (treeHeight lent w) (neededNodes lent w) (freeCount w) a d
 
   data Decides (c : Call) : Type 0 where
     accepts : (v : List ℕ) → reply w m c .answer ≡ result v → Decides c
@@ -111,19 +111,19 @@ module _ (w : List ℕ) (l : Ledger) (H : Holds w l) (m : Lent) where
   decides-append : (k x : ℕ) → Decides (append k x)
   unfolding reply AllowedAnswer
   decides-append k x =
-      let L = insert-law w l H k x in
-      go (verdict k (ledgerEnd l) (treeHeight w) (neededNodes w) (freeCount w)) (L .answer) (verdict-allowed k (ledgerEnd l) (treeHeight w) (neededNodes w) (freeCount w)) (L .refusal)
+      let L = insert-law lent w l H k x in
+      go (verdict k (ledgerEnd l) (treeHeight lent w) (neededNodes lent w) (freeCount w)) (L .answer) (verdict-allowed k (ledgerEnd l) (treeHeight lent w) (neededNodes lent w) (freeCount w)) (L .refusal)
     where
-      go : (a : Answer) → insertRowPage w k x .answer ≡ a → AllowedAnswer (treeHeight w) (neededNodes w) (freeCount w) a
-          → ((b d : ℕ) → insertRowPage w k x .answer ≡ refused b d → insertRowPage w k x .words ≡ w) → Decides (append k x)
+      go : (a : Answer) → insertRowPage lent w k x .answer ≡ a → AllowedAnswer (treeHeight lent w) (neededNodes lent w) (freeCount w) a
+          → ((b d : ℕ) → insertRowPage lent w k x .answer ≡ refused b d → insertRowPage lent w k x .words ≡ w) → Decides (append k x)
       go (result v) e q f = accepts v e
       go (refused a d) e q f = refusing a d q (rw (e, f a d e))
 
   decides-prune : (s e : ℕ) (ids : List ℕ) → Decides (prune s e ids)
   unfolding reply CutFits PruneLaw
-  decides-prune s e ids = go (ledgerCut l s e ids) (cut-fits l s e ids) (prune-law w l H s e ids)
+  decides-prune s e ids = go (ledgerCut l s e ids) (cut-fits l s e ids) (prune-law lent w l H s e ids)
     where
-      go : (c : Cut) → CutFits (drop (length ids) (l .ranges)) c → PruneLaw w e ids c (pruneCheckpointPrefix w s e ids) → Decides (prune s e ids)
+      go : (c : Cut) → CutFits (drop (length ids) (l .ranges)) c → PruneLaw lent w e ids c (pruneCheckpointPrefix lent w s e ids) → Decides (prune s e ids)
       go (refuses a d) h p = refusing a d (fair a d h) (rw p)
       go (leaves gs) h p = accepts _ (p .answer)
 
@@ -146,11 +146,11 @@ module _ (w : List ℕ) (l : Ledger) (H : Holds w l) (m : Lent) where
 
   decides-find : (q : ℕ) → Decides (lookup q)
   unfolding reply ledgerFind
-  decides-find q = let f = find-result (l .start) (l .ranges) q in accepts (f .0) (find-law w l H q ∙ f .1)
+  decides-find q = let f = find-result (l .start) (l .ranges) q in accepts (f .0) (find-law lent w l H q ∙ f .1)
 
   decides-check : Decides check
   unfolding reply
-  decides-check = accepts _ (accepted w (H .formed))
+  decides-check = accepts _ (accepted lent w (H .formed))
 
   decides-next : Decides nextLeaf
   decides-next = ⊎-elim (λ e. refusing 13 (capacity w) (fair 13 (capacity w) (omega arith)) e) (λ a. accepts (a .0) (a .1)) (next-decide w l H m)

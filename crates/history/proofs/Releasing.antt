@@ -7,7 +7,7 @@ use native.Mathlib.Omega.{arith}
 use lib.ListN.{length}
 use lib.Dec.{leb, ltb, eqb}
 use borrow.Author.Tests.{le-leb, le-ltb, leb-true, ltb-false, eqb-true, eqb-false}
-use Rattle.model.specs.Words.{pick, fill, capacity, pool, root, freeHead, freeCount, Header}
+use Rattle.model.specs.Words.{storeShape, lent, shape, pick, fill, capacity, pool, root, freeHead, freeCount, Header}
 use Rattle.model.specs.Reading.{Fault, clear, at, unlessBad, pageIds, rootEntries, rootNodes}
 use Rattle.model.specs.Refusals.{Answer, result, refused, Outcome}
 use Rattle.model.specs.WellFormed.{Chain, WellFormed}
@@ -46,17 +46,17 @@ none-below v (p ∷ ps) e =
 
 closed-as : (w v : List ℕ) → Header (capacity w) (pool w) w → capacity v ≡ capacity w → pool v ≡ pool w → length v ≡ length w → Header (capacity v) (pool v) v
 closed-as w v h c p n =
-    let C = capacity v in
+    let C = storeShape lent v in
     rw (c, p) (record { cap-low = h .cap-low; cap-high = h .cap-high; pool-low = h .pool-low; pool-high = h .pool-high; long = n ∙ h .long })
 
-pub closed-of : (w : List ℕ) (l : Ledger) (x : List ℕ) (r : Released) → WellFormed w → Releases w l x r → Closed (r .words)
+pub closed-of : (w : List ℕ) (l : Ledger) (x : List ℕ) (r : Released) → WellFormed lent w → Releases w l x r → Closed (r .words)
 unfolding WellFormed
 closed-of w l x r F R =
     let v = r .words in
     let fits = closed-as w v (F .fits) (R .same-capacity) (R .same-pool) (R .same-length) in
-    let linked : Chain (capacity v) (pool v) v (freeHead v) (R .chain) =
-    subst (λ (c : ℕ). Chain c (pool v) v (freeHead v) (R .chain)) (sym (R .same-capacity))
-    (subst (λ (p : ℕ). Chain (capacity w) p v (freeHead v) (R .chain)) (sym (R .same-pool)) (R .linked)) in
+    let linked : Chain (storeShape lent v) (pool v) v (freeHead v) (R .chain) =
+    subst (λ (c : ℕ). Chain (shape lent c) (pool v) v (freeHead v) (R .chain)) (sym (R .same-capacity))
+    (subst (λ (p : ℕ). Chain (storeShape lent w) p v (freeHead v) (R .chain)) (sym (R .same-pool)) (R .linked)) in
     let free : freeCount v ≡ pool v = R .free ∙ sym (R .same-pool) in
     record {
       fits = fits;
@@ -71,7 +71,7 @@ closed-of w l x r F R =
 
 -- The answers ----------------------------------------------------------------------------------------------
 
-module _ (w : List ℕ) (l : Ledger) (H : Holds w l) (v : ℕ) (x : List ℕ) where
+module _ (w : List ℕ) (l : Ledger) (H : Holds lent w l) (v : ℕ) (x : List ℕ) where
   abbrev still : Answer → Released
   still a = record { answer = a; words = w; list = x }
 
@@ -79,30 +79,30 @@ module _ (w : List ℕ) (l : Ledger) (H : Holds w l) (v : ℕ) (x : List ℕ) wh
   n = length (l .ranges)
 
   abbrev done : Released
-  done = record { answer = result (treeNodes w ∷ n ∷ []); words = releasedWords (capacity w) (pool w) w (rootNodes (capacity w) w (root w)); list = fill x 0 (pageIds (rootEntries (capacity w) w (root w))) }
+  done = record { answer = result (treeNodes lent w ∷ n ∷ []); words = releasedWords (storeShape lent w) (pool w) w (rootNodes (storeShape lent w) w (root w)); list = fill x 0 (pageIds (rootEntries (storeShape lent w) w (root w))) }
 
-  many : length (rootEntries (capacity w) w (root w)) ≡ n
+  many : length (rootEntries (storeShape lent w) w (root w)) ≡ n
   many = ap length (H .entries) ∙ from-length (l .start) (l .ranges)
 
-  low : firstLow v (rootEntries (capacity w) w (root w)) ≡ firstBelow v (ledgerWalk l)
+  low : firstLow v (rootEntries (storeShape lent w) w (root w)) ≡ firstBelow v (ledgerWalk l)
   unfolding ledgerWalk
   low = ap (firstLow v) (H .entries) ∙ low-is v (l .start) (l .ranges)
 
-  decided : destroy w v x ≡ unlessBad (firstBelow v (ledgerWalk l)) (λ (r : ℕ). still (refused 12 r)) (pick (leb n (length x)) done (still (refused 13 n)))
+  decided : destroy lent w v x ≡ unlessBad (firstBelow v (ledgerWalk l)) (λ (r : ℕ). still (refused 12 r)) (pick (leb n (length x)) done (still (refused 13 n)))
   unfolding destroy WellFormed
   decided =
-      goes-on w (H .formed) still _
+      goes-on lent w (H .formed) still _
       ∙ rw (
-        sound-root (capacity w) (pool w) w (root w) (H .formed .sound),
+        sound-root (storeShape lent w) (pool w) w (root w) (H .formed .sound),
         low,
         many,
-        le-leb (freeCount w + length (rootNodes (capacity w) w (root w))) (pool w) (omega (arith, sum w (H .formed))),
+        le-leb (freeCount w + length (rootNodes (storeShape lent w) w (root w))) (pool w) (omega (arith, sum lent w (H .formed))),
       )
 
   pub data Decided : Type 0 where
-    below : (r : ℕ) → ledgerRelease l v (treeNodes w) (length x) ≡ refused 12 r → destroy w v x ≡ still (refused 12 r) → Decided
-    short : ledgerRelease l v (treeNodes w) (length x) ≡ refused 13 n → destroy w v x ≡ still (refused 13 n) → Decided
-    good : ledgerRelease l v (treeNodes w) (length x) ≡ result (treeNodes w ∷ n ∷ []) → destroy w v x ≡ done → Releases w l x (destroy w v x) → Decided
+    below : (r : ℕ) → ledgerRelease l v (treeNodes lent w) (length x) ≡ refused 12 r → destroy lent w v x ≡ still (refused 12 r) → Decided
+    short : ledgerRelease l v (treeNodes lent w) (length x) ≡ refused 13 n → destroy lent w v x ≡ still (refused 13 n) → Decided
+    good : ledgerRelease l v (treeNodes lent w) (length x) ≡ result (treeNodes lent w ∷ n ∷ []) → destroy lent w v x ≡ done → Releases w l x (destroy lent w v x) → Decided
 
   pub decide : Decided
   unfolding ledgerRelease
@@ -122,21 +122,21 @@ unfolding firstBelow
 clear-zero [] = refl
 clear-zero (p ∷ ps) = rw (le-ltb (p .0) 0 (omega arith)) (clear-zero ps)
 
-module _ (w : List ℕ) (l : Ledger) (H : Holds w l) where
+module _ (w : List ℕ) (l : Ledger) (H : Holds lent w l) where
   -- it does what release does with pivot 0 and no list
-  same-words : length (l .ranges) ≡ 0 → destroy w 0 [] .words ≡ releasedWords (capacity w) (pool w) w (rootNodes (capacity w) w (root w))
+  same-words : length (l .ranges) ≡ 0 → destroy lent w 0 [] .words ≡ releasedWords (storeShape lent w) (pool w) w (rootNodes (storeShape lent w) w (root w))
   same-words z =
-      let e : destroy w 0 [] ≡ done w l H 0 [] = decided w l H 0 [] ∙ rw (clear-zero (ledgerWalk l), le-leb (length (l .ranges)) 0 (omega (arith, z))) in
+      let e : destroy lent w 0 [] ≡ done w l H 0 [] = decided w l H 0 [] ∙ rw (clear-zero (ledgerWalk l), le-leb (length (l .ranges)) 0 (omega (arith, z))) in
       ap (λ (r : Released). r .words) e
 
-  closed-empty : length (l .ranges) ≡ 0 → Closed (releasedWords (capacity w) (pool w) w (rootNodes (capacity w) w (root w)))
+  closed-empty : length (l .ranges) ≡ 0 → Closed (releasedWords (storeShape lent w) (pool w) w (rootNodes (storeShape lent w) w (root w)))
   closed-empty z =
       subst Closed (same-words z)
-      (closed-of w l [] (destroy w 0 []) (H .formed) (releases w l H 0 [] (none-below 0 (ledgerWalk l) (clear-zero (ledgerWalk l))) (omega (arith, z))))
+      (closed-of w l [] (destroy lent w 0 []) (H .formed) (releases w l H 0 [] (none-below 0 (ledgerWalk l) (clear-zero (ledgerWalk l))) (omega (arith, z))))
 
   pub data DecidedEmpty : Type 0 where
-    filled : eqb (length (l .ranges)) 0 ≡ false → destroyEmpty w ≡ record { answer = refused 12 0; words = w } → DecidedEmpty
-    bare : eqb (length (l .ranges)) 0 ≡ true → destroyEmpty w .answer ≡ result (1 ∷ 0 ∷ []) → Closed (destroyEmpty w .words) → DecidedEmpty
+    filled : eqb (length (l .ranges)) 0 ≡ false → destroyEmpty lent w ≡ record { answer = refused 12 0; words = w } → DecidedEmpty
+    bare : eqb (length (l .ranges)) 0 ≡ true → destroyEmpty lent w .answer ≡ result (1 ∷ 0 ∷ []) → Closed (destroyEmpty lent w .words) → DecidedEmpty
 
   pub decide-empty : DecidedEmpty
   decide-empty =

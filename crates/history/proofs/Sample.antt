@@ -8,22 +8,22 @@ use Rattle.model.specs.Append.{appendStart, roomFrom, room, firsts, past, chain
 use Rattle.model.specs.Create.{chained, newStore, create}
 use Rattle.model.specs.Cut.{ifGone, keep, cutPairs, trim, cut, wentPairs, went, trimsPairs, trims, kept}
 use Rattle.model.specs.Ledger.{Range, emptyLedger, endFrom, ledgerEnd, ledgerAppend}
-use Rattle.model.specs.LeafWalk.{unsought, records}
+use Rattle.model.specs.LeafWalk.{records}
 use Rattle.model.specs.Lookup.{foundIn, findInTree, tryFindRow}
 use Rattle.model.specs.Prune.{moved, trimmed, trimAll, copyAll, pruneTree, against, entryEnd, scanLeaf, spoilt, scan, ranOut, before, atLast, copiesFrom, rootCopies, pruneWith, pruneScanned, pruneRoot, pruneCheckpointPrefix}
 use Rattle.model.specs.Reading.{endFits, passes, visits, rootVisits, firstBad, entries, inPairs, nodes, occ, nextRow, checked, descend, rootLeaf, lastNotAbove}
 use Rattle.model.specs.Refusals.{headerOk}
 use Rattle.model.specs.Release.{firstLow, releasedWords, destroy}
 use Rattle.model.specs.Tree.{pairsFrom, rising, firstRow, lastRow, meets, endSound, sound, emptyRoot, rootSound, level, next, last, overPairs}
-use Rattle.model.specs.Words.{base, part, put, emptied, added, copyFrom, copied, freed, freeAll, fill}
-use Rattle.history.specs.Calls.{Lent, Call, append, lookup, prune, seekRow, release, reply, State, holding, closed, ifDone, stateAfter, History, Place, run}
+use Rattle.model.specs.Words.{lent, stands, index, part, put, emptied, added, copyFrom, copied, freed, freeAll, fill}
+use Rattle.history.specs.Calls.{Loan, nothing, withPages, Call, append, lookup, prune, seekRow, release, reply, State, holding, closed, ifDone, stateAfter, History, Place, begin, run}
 
 -- room for five page ids
-abbrev some : Lent
-some = record { cursor = unsought; records = []; pages = replicate 5 9 }
+abbrev some : Loan
+some = withPages nothing (replicate 5 9)
 
 abbrev new : Place
-new = record { words = create (replicate 136 7) 2 16 0 .words; state = holding (emptyLedger 0) }
+new = begin (create lent (replicate 136 7) 2 16 0 .words) (emptyLedger 0)
 
 -- the state after the calls
 abbrev after : List Call → State
@@ -41,10 +41,10 @@ range e x = record { end = e; page = x }
 
 -- a prune is refused, another is accepted; lookups and seeks change nothing
 pub cut-at-twenty : after (five (prune 0 20 (1 ∷ 3 ∷ []) ∷ prune 0 20 (1 ∷ 2 ∷ []) ∷ lookup 20 ∷ seekRow 5 ∷ [])) ≡ holding (record { start = 20; ranges = range 30 3 ∷ range 40 4 ∷ range 50 5 ∷ [] })
-unfolding appendStart roomFrom room firsts past chainSound taken fresh topOf endOver newPath hang raised splitRoot appendAt appendTo insertRowPage chained newStore create ifGone keep cutPairs trim cut wentPairs went trimsPairs trims kept endFrom ledgerEnd ledgerAppend foundIn findInTree tryFindRow moved trimmed trimAll copyAll pruneTree against entryEnd scanLeaf spoilt scan ranOut before atLast copiesFrom rootCopies pruneWith pruneScanned pruneRoot pruneCheckpointPrefix endFits passes visits rootVisits firstBad entries inPairs nodes occ nextRow checked descend rootLeaf lastNotAbove headerOk pairsFrom rising firstRow lastRow meets endSound sound emptyRoot rootSound level next last overPairs base part put emptied added copyFrom copied freed freeAll fill reply ifDone stateAfter run
+unfolding appendStart roomFrom room firsts past chainSound taken fresh topOf endOver newPath hang raised splitRoot appendAt appendTo insertRowPage chained newStore create ifGone keep cutPairs trim cut wentPairs went trimsPairs trims kept endFrom ledgerEnd ledgerAppend foundIn findInTree tryFindRow moved trimmed trimAll copyAll pruneTree against entryEnd scanLeaf spoilt scan ranOut before atLast copiesFrom rootCopies pruneWith pruneScanned pruneRoot pruneCheckpointPrefix endFits passes visits rootVisits firstBad entries inPairs nodes occ nextRow checked descend rootLeaf lastNotAbove headerOk pairsFrom rising firstRow lastRow meets endSound sound emptyRoot rootSound level next last overPairs stands index part put emptied added copyFrom copied freed freeAll fill reply ifDone stateAfter run
 cut-at-twenty = refl
 
 -- a release is refused, another is accepted, and the store is closed from there on
 pub released : after (five (release 1 ∷ release 0 ∷ append 10 6 ∷ [])) ≡ closed
-unfolding appendStart roomFrom room firsts past chainSound taken fresh topOf endOver newPath hang raised splitRoot appendAt appendTo insertRowPage chained newStore create endFrom ledgerEnd ledgerAppend endFits passes visits rootVisits firstBad entries inPairs nodes occ nextRow checked descend rootLeaf lastNotAbove headerOk firstLow releasedWords destroy pairsFrom rising firstRow lastRow meets endSound sound emptyRoot rootSound level next last overPairs base part put emptied added copyFrom copied freed freeAll fill reply ifDone stateAfter run
+unfolding appendStart roomFrom room firsts past chainSound taken fresh topOf endOver newPath hang raised splitRoot appendAt appendTo insertRowPage chained newStore create endFrom ledgerEnd ledgerAppend endFits passes visits rootVisits firstBad entries inPairs nodes occ nextRow checked descend rootLeaf lastNotAbove headerOk firstLow releasedWords destroy pairsFrom rising firstRow lastRow meets endSound sound emptyRoot rootSound level next last overPairs stands index part put emptied added copyFrom copied freed freeAll fill reply ifDone stateAfter run
 released = refl

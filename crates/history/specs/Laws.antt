@@ -13,7 +13,7 @@ use Rattle.model.specs.LeafWalk.{cursorAt, pageEntry}
 use Rattle.model.specs.Ledger.{Range, Ledger, endFrom, walkFrom, ledgerWalk}
 use Rattle.model.specs.declared.cursor.RowPageIndexMemCursor.{RowPageIndexMemCursor}
 use Rattle.cursor.specs.Walking.{firstPairs}
-use Rattle.history.specs.Calls.{Lent, Call, nextLeaf, Reply, reply, History}
+use Rattle.history.specs.Calls.{Loan, Call, nextLeaf, Reply, reply, History}
 
 -- Next -----------------------------------------------------------------------------------------------------------
 
@@ -23,7 +23,7 @@ leafEnd s [] = NONE
 leafEnd s (g ∷ gs) = endFrom s (g ∷ gs)
 
 -- the leaf given for the cursor's row holds some ranges in turn, from row s on
-pub record GivesLeaf (l : Ledger) (m : Lent) (r : Reply) : Type 0 where
+pub record GivesLeaf (l : Ledger) (m : Loan) (r : Reply) : Type 0 where
   pub before : List Range
   pub those : List Range
   pub rest : List Range
@@ -31,28 +31,28 @@ pub record GivesLeaf (l : Ledger) (m : Lent) (r : Reply) : Type 0 where
   pub s : ℕ
   pub begins : s ≡ endFrom (l .start) before
   pub answer : r .answer ≡ result (s ∷ leafEnd s those ∷ length those ∷ [])
-  pub cursor : r .lent .cursor ≡ cursorAt (leafEnd s those) (eqb (length rest) 0)
-  pub records : r .lent .records ≡ map (λ (p : ℕ × ℕ). pageEntry (p .0) (p .1)) (walkFrom s those) ++ drop (length those) (m .records)
+  pub cursor : r .loan .cursor ≡ cursorAt (leafEnd s those) (eqb (length rest) 0)
+  pub records : r .loan .records ≡ map (λ (p : ℕ × ℕ). pageEntry (p .0) (p .1)) (walkFrom s those) ++ drop (length those) (m .records)
   -- "below the start: the first; past the end: the last; empty: the empty root"
   pub low : (before ≡ []) ⊎ (s ≤ m .cursor .«row_id» .0)
   pub high : (rest ≡ []) ⊎ (m .cursor .«row_id» .0 < leafEnd s those)
   pub some : those ≡ [] → l .ranges ≡ []
 
 -- "Next: 13, none if done"
-pub record NextLaw (w : List ℕ) (l : Ledger) (m : Lent) (r : Reply) : Type 0 where
+pub record NextLaw (w : List ℕ) (l : Ledger) (m : Loan) (r : Reply) : Type 0 where
   pub short : length (m .records) < capacity w → r .answer ≡ refused 13 (capacity w)
-  pub none : capacity w ≤ length (m .records) → m .cursor .done ≡ true → r ≡ record { answer = result []; words = w; lent = m }
+  pub none : capacity w ≤ length (m .records) → m .cursor .done ≡ true → r ≡ record { answer = result []; words = w; loan = m }
   pub gives : capacity w ≤ length (m .records) → m .cursor .done ≡ false → GivesLeaf l m r
 
 -- A walk from a cursor, among other calls that leave the store w as it is: n steps give a leaf each, the one after them
 -- gives none, and the records of the leaves, joined, are these pairs.
 pub data Walks (w : List ℕ) : RowPageIndexMemCursor → History → List (ℕ × ℕ) → ℕ → Type 0 where
-  between : (c : RowPageIndexMemCursor) (m : Lent) (b : Call) (cs : History) (ps : List (ℕ × ℕ)) (n : ℕ) → reply w m b .words ≡ w
+  between : (c : RowPageIndexMemCursor) (m : Loan) (b : Call) (cs : History) (ps : List (ℕ × ℕ)) (n : ℕ) → reply w m b .words ≡ w
       → Walks w c cs ps n → Walks w c ((m, b) ∷ cs) ps n
-  gave : (c : RowPageIndexMemCursor) (m : Lent) (cs : History) (s e k : ℕ) (ps : List (ℕ × ℕ)) (n : ℕ) → m .cursor ≡ c
-      → reply w m nextLeaf .answer ≡ result (s ∷ e ∷ k ∷ []) → Walks w (reply w m nextLeaf .lent .cursor) cs ps n
-      → Walks w c ((m, nextLeaf) ∷ cs) (firstPairs k (reply w m nextLeaf .lent .records) ++ ps) (suc n)
-  over : (c : RowPageIndexMemCursor) (m : Lent) (cs : History) → m .cursor ≡ c → reply w m nextLeaf .answer ≡ result []
+  gave : (c : RowPageIndexMemCursor) (m : Loan) (cs : History) (s e k : ℕ) (ps : List (ℕ × ℕ)) (n : ℕ) → m .cursor ≡ c
+      → reply w m nextLeaf .answer ≡ result (s ∷ e ∷ k ∷ []) → Walks w (reply w m nextLeaf .loan .cursor) cs ps n
+      → Walks w c ((m, nextLeaf) ∷ cs) (firstPairs k (reply w m nextLeaf .loan .records) ++ ps) (suc n)
+  over : (c : RowPageIndexMemCursor) (m : Loan) (cs : History) → m .cursor ≡ c → reply w m nextLeaf .answer ≡ result []
       → Walks w c ((m, nextLeaf) ∷ cs) [] 0
 
 -- Release ----------------------------------------------------------------------------------------------------------

@@ -5,8 +5,9 @@ use mathlib.Core.List.{List, [], _∷_}
 use mathlib.Core.Bool.{Bool, true, false, not}
 use lib.ListN.{getD}
 use lib.Dec.{eqb}
-use Rattle.model.specs.Words.{pick}
-use Rattle.model.specs.LeafWalk.{cursorAt}
+use Rattle.model.specs.Words.{pick, fill}
+use Rattle.model.specs.Refusals.{Answer}
+use Rattle.model.specs.LeafWalk.{cursorAt, givesLeaf}
 use Rattle.model.specs.declared.cursor.RowPageIndexMemCursor.{RowPageIndexMemCursor}
 
 abbrev pub cursorIn : List ℕ → RowPageIndexMemCursor
@@ -14,3 +15,7 @@ cursorIn l = cursorAt (getD l 0 0) (not (eqb (getD l 1 1) 0))
 
 abbrev pub cursorWords : RowPageIndexMemCursor → List ℕ
 cursorWords c = c .«row_id» .0 ∷ pick (c .done) 1 0 ∷ []
+
+-- "Nothing lent changes, cursor included": the words change where a step gave a leaf, and only there, whatever they held
+abbrev pub cursorAfter : List ℕ → RowPageIndexMemCursor → Answer → List ℕ
+cursorAfter l c a = pick (givesLeaf a) (fill l 0 (cursorWords c)) l

@@ -1,21 +1,16 @@
 // The calls for a host that holds its own store: C functions on lent words. Each writes its answer into a lent array of
-// five words, as far as they fit, and returns the refusal's number, or 0. docs/HOST.md tells how to call them.
+// seven words, as far as they fit, and returns the refusal's number, or 0. docs/HOST.md tells how to call them.
 
 ghost use mathlib.Core.Path.{_≡_};
-ghost use mathlib.Core.List.{[], _∷_};
 ghost use lib.ListN.{getD};
 ghost use Rattle.model.specs.Words.{fill, pick};
-ghost use Rattle.model.specs.Create.{create};
-ghost use Rattle.model.specs.Append.{insertRowPage};
-ghost use Rattle.model.specs.Lookup.{tryFindRow};
-ghost use Rattle.model.specs.Prune.{pruneCheckpointPrefix};
-ghost use Rattle.model.specs.Release as Release;
-ghost use Rattle.model.specs.FullCheck.{fullCheck};
-ghost use Rattle.byvalue.specs.Written.{nextWordsOf};
+ghost use Rattle.model.specs.Refusals.{nextLeaf};
 ghost use Rattle.answers.specs.Numbers.{answerWords};
-ghost use Rattle.host.specs.Cursors.{cursorIn, cursorWords};
+ghost use Rattle.host.specs.Cursors.{cursorAfter, cursorIn};
+ghost use Rattle.host.specs.Served.{append, check, create, destroy, destroyEmpty, find, next, onCursor, onPages, onWalk, onWords, prune, seek, served};
 use answers;
 use byvalue;
+use model::answer::NextLeaf;
 use model::cursor::RowPageIndexMemCursor;
 use model::id::PageID;
 use model::id::RowID;
@@ -29,9 +24,9 @@ pub extern "C" fn row_page_index_create(
     start: u64,
     answer: &mut [u64],
 ) -> u64
-    ensures words { λ _. ⌜ now (words .exit) ≡ create (now (words .entry)) capacity nodes start .words ⌝ }
-    ensures answer { λ _. ⌜ now (answer .exit) ≡ fill (now (answer .entry)) 0 (answerWords (create (now (words .entry)) capacity nodes start .answer)) ⌝ }
-    ensures number { λ r. ⌜ r ≡ getD (answerWords (create (now (words .entry)) capacity nodes start .answer)) 0 0 ⌝ }
+    ensures words { λ _. ⌜ now (words .exit) ≡ served (onWords (now (words .entry))) (create capacity nodes start) .arrays .words ⌝ }
+    ensures answer { λ _. ⌜ now (answer .exit) ≡ fill (now (answer .entry)) 0 (answerWords (served (onWords (now (words .entry))) (create capacity nodes start) .answer)) ⌝ }
+    ensures number { λ r. ⌜ r ≡ getD (answerWords (served (onWords (now (words .entry))) (create capacity nodes start) .answer)) 0 0 ⌝ }
 {
     let n = answers::created_numbers(create::new(words, capacity, nodes, RowID(start)));
     answers::write(answer, n);
@@ -46,9 +41,9 @@ pub extern "C" fn row_page_index_append(
     page: u64,
     answer: &mut [u64],
 ) -> u64
-    ensures words { λ _. ⌜ now (words .exit) ≡ insertRowPage (now (words .entry)) count page .words ⌝ }
-    ensures answer { λ _. ⌜ now (answer .exit) ≡ fill (now (answer .entry)) 0 (answerWords (insertRowPage (now (words .entry)) count page .answer)) ⌝ }
-    ensures number { λ r. ⌜ r ≡ getD (answerWords (insertRowPage (now (words .entry)) count page .answer)) 0 0 ⌝ }
+    ensures words { λ _. ⌜ now (words .exit) ≡ served (onWords (now (words .entry))) (append count page) .arrays .words ⌝ }
+    ensures answer { λ _. ⌜ now (answer .exit) ≡ fill (now (answer .entry)) 0 (answerWords (served (onWords (now (words .entry))) (append count page) .answer)) ⌝ }
+    ensures number { λ r. ⌜ r ≡ getD (answerWords (served (onWords (now (words .entry))) (append count page) .answer)) 0 0 ⌝ }
 {
     let n = answers::inserted_numbers(insert::insert_row_page(words, count, PageID(page)));
     answers::write(answer, n);
@@ -58,8 +53,8 @@ pub extern "C" fn row_page_index_append(
 // One value, the page; or none.
 #[no_mangle]
 pub extern "C" fn row_page_index_find(words: &[u64], row: u64, answer: &mut [u64]) -> u64
-    ensures answer { λ _. ⌜ now (answer .exit) ≡ fill (now (answer .entry)) 0 (answerWords (tryFindRow (now (words .entry)) row)) ⌝ }
-    ensures number { λ r. ⌜ r ≡ getD (answerWords (tryFindRow (now (words .entry)) row)) 0 0 ⌝ }
+    ensures answer { λ _. ⌜ now (answer .exit) ≡ fill (now (answer .entry)) 0 (answerWords (served (onWords (now (words .entry))) (find row) .answer)) ⌝ }
+    ensures number { λ r. ⌜ r ≡ getD (answerWords (served (onWords (now (words .entry))) (find row) .answer)) 0 0 ⌝ }
 {
     let n = answers::location_numbers(find::try_find_row(words, RowID(row)));
     answers::write(answer, n);
@@ -75,9 +70,9 @@ pub extern "C" fn row_page_index_prune(
     ids: &[u64],
     answer: &mut [u64],
 ) -> u64
-    ensures words { λ _. ⌜ now (words .exit) ≡ pruneCheckpointPrefix (now (words .entry)) start end (now (ids .entry)) .words ⌝ }
-    ensures answer { λ _. ⌜ now (answer .exit) ≡ fill (now (answer .entry)) 0 (answerWords (pruneCheckpointPrefix (now (words .entry)) start end (now (ids .entry)) .answer)) ⌝ }
-    ensures number { λ r. ⌜ r ≡ getD (answerWords (pruneCheckpointPrefix (now (words .entry)) start end (now (ids .entry)) .answer)) 0 0 ⌝ }
+    ensures words { λ _. ⌜ now (words .exit) ≡ served (onWords (now (words .entry))) (prune start end (now (ids .entry))) .arrays .words ⌝ }
+    ensures answer { λ _. ⌜ now (answer .exit) ≡ fill (now (answer .entry)) 0 (answerWords (served (onWords (now (words .entry))) (prune start end (now (ids .entry))) .answer)) ⌝ }
+    ensures number { λ r. ⌜ r ≡ getD (answerWords (served (onWords (now (words .entry))) (prune start end (now (ids .entry))) .answer)) 0 0 ⌝ }
 {
     let n = answers::pruned_numbers(prune::prune_checkpoint_prefix(
         words,
@@ -97,10 +92,10 @@ pub extern "C" fn row_page_index_destroy(
     pages: &mut [u64],
     answer: &mut [u64],
 ) -> u64
-    ensures words { λ _. ⌜ now (words .exit) ≡ Release.destroy (now (words .entry)) pivot (now (pages .entry)) .words ⌝ }
-    ensures list { λ _. ⌜ now (pages .exit) ≡ Release.destroy (now (words .entry)) pivot (now (pages .entry)) .list ⌝ }
-    ensures answer { λ _. ⌜ now (answer .exit) ≡ fill (now (answer .entry)) 0 (answerWords (Release.destroy (now (words .entry)) pivot (now (pages .entry)) .answer)) ⌝ }
-    ensures number { λ r. ⌜ r ≡ getD (answerWords (Release.destroy (now (words .entry)) pivot (now (pages .entry)) .answer)) 0 0 ⌝ }
+    ensures words { λ _. ⌜ now (words .exit) ≡ served (onPages (now (words .entry)) (now (pages .entry))) (destroy pivot) .arrays .words ⌝ }
+    ensures list { λ _. ⌜ now (pages .exit) ≡ served (onPages (now (words .entry)) (now (pages .entry))) (destroy pivot) .arrays .pages ⌝ }
+    ensures answer { λ _. ⌜ now (answer .exit) ≡ fill (now (answer .entry)) 0 (answerWords (served (onPages (now (words .entry)) (now (pages .entry))) (destroy pivot) .answer)) ⌝ }
+    ensures number { λ r. ⌜ r ≡ getD (answerWords (served (onPages (now (words .entry)) (now (pages .entry))) (destroy pivot) .answer)) 0 0 ⌝ }
 {
     let n = answers::destroyed_numbers(destroy::destroy(words, RowID(pivot), pages));
     answers::write(answer, n);
@@ -110,9 +105,9 @@ pub extern "C" fn row_page_index_destroy(
 // Values: nodes freed, pages; of an empty store.
 #[no_mangle]
 pub extern "C" fn row_page_index_destroy_empty(words: &mut [u64], answer: &mut [u64]) -> u64
-    ensures words { λ _. ⌜ now (words .exit) ≡ Release.destroyEmpty (now (words .entry)) .words ⌝ }
-    ensures answer { λ _. ⌜ now (answer .exit) ≡ fill (now (answer .entry)) 0 (answerWords (Release.destroyEmpty (now (words .entry)) .answer)) ⌝ }
-    ensures number { λ r. ⌜ r ≡ getD (answerWords (Release.destroyEmpty (now (words .entry)) .answer)) 0 0 ⌝ }
+    ensures words { λ _. ⌜ now (words .exit) ≡ served (onWords (now (words .entry))) destroyEmpty .arrays .words ⌝ }
+    ensures answer { λ _. ⌜ now (answer .exit) ≡ fill (now (answer .entry)) 0 (answerWords (served (onWords (now (words .entry))) destroyEmpty .answer)) ⌝ }
+    ensures number { λ r. ⌜ r ≡ getD (answerWords (served (onWords (now (words .entry))) destroyEmpty .answer)) 0 0 ⌝ }
 {
     let n = answers::destroyed_numbers(destroy::destroy_empty(words));
     answers::write(answer, n);
@@ -122,8 +117,8 @@ pub extern "C" fn row_page_index_destroy_empty(words: &mut [u64], answer: &mut [
 // Values: entries, tree nodes, free nodes.
 #[no_mangle]
 pub extern "C" fn row_page_index_check(words: &[u64], answer: &mut [u64]) -> u64
-    ensures answer { λ _. ⌜ now (answer .exit) ≡ fill (now (answer .entry)) 0 (answerWords (fullCheck (now (words .entry)))) ⌝ }
-    ensures number { λ r. ⌜ r ≡ getD (answerWords (fullCheck (now (words .entry)))) 0 0 ⌝ }
+    ensures answer { λ _. ⌜ now (answer .exit) ≡ fill (now (answer .entry)) 0 (answerWords (served (onWords (now (words .entry))) check .answer)) ⌝ }
+    ensures number { λ r. ⌜ r ≡ getD (answerWords (served (onWords (now (words .entry))) check .answer)) 0 0 ⌝ }
 {
     let n = answers::checked_numbers(full_check::full_check(words));
     answers::write(answer, n);
@@ -158,9 +153,14 @@ fn flag(b: bool) -> u64
     if b { 1 } else { 0 }
 }
 
-fn cursor_out(cursor: &mut [u64], c: RowPageIndexMemCursor)
-    ensures { λ _. ⌜ now (cursor .exit) ≡ fill (now (cursor .entry)) 0 (cursorWords c) ⌝ }
+// The cursor's words where a leaf was given; else they stay.
+fn cursor_out(cursor: &mut [u64], c: RowPageIndexMemCursor, given: NextLeaf)
+    ensures { λ _. ⌜ now (cursor .exit) ≡ cursorAfter (now (cursor .entry)) c (nextLeaf given) ⌝ }
 {
+    let moves = byvalue::gives_leaf(given);
+    if !moves {
+        return;
+    }
     let row = c.row_id;
     let done = flag(c.done);
     answers::put(cursor, 0, row.0);
@@ -170,7 +170,7 @@ fn cursor_out(cursor: &mut [u64], c: RowPageIndexMemCursor)
 // Keeps a row.
 #[no_mangle]
 pub extern "C" fn row_page_index_seek(cursor: &mut [u64], row: u64)
-    ensures { λ _. ⌜ now (cursor .exit) ≡ fill (now (cursor .entry)) 0 (row ∷ 0 ∷ []) ⌝ }
+    ensures { λ _. ⌜ now (cursor .exit) ≡ served (onCursor (now (cursor .entry))) (seek row) .arrays .cursor ⌝ }
 {
     answers::put(cursor, 0, row);
     answers::put(cursor, 1, 0);
@@ -184,15 +184,15 @@ pub extern "C" fn row_page_index_next(
     records: &mut [u64],
     answer: &mut [u64],
 ) -> u64
-    ensures cursor { λ _. ⌜ now (cursor .exit) ≡ fill (now (cursor .entry)) 0 (cursorWords (nextWordsOf (now (words .entry)) (cursorIn (now (cursor .entry))) (now (records .entry)) .cursor)) ⌝ }
-    ensures records { λ _. ⌜ now (records .exit) ≡ nextWordsOf (now (words .entry)) (cursorIn (now (cursor .entry))) (now (records .entry)) .words ⌝ }
-    ensures answer { λ _. ⌜ now (answer .exit) ≡ fill (now (answer .entry)) 0 (answerWords (nextWordsOf (now (words .entry)) (cursorIn (now (cursor .entry))) (now (records .entry)) .answer)) ⌝ }
-    ensures number { λ r. ⌜ r ≡ getD (answerWords (nextWordsOf (now (words .entry)) (cursorIn (now (cursor .entry))) (now (records .entry)) .answer)) 0 0 ⌝ }
+    ensures cursor { λ _. ⌜ now (cursor .exit) ≡ served (onWalk (now (words .entry)) (now (cursor .entry)) (now (records .entry))) next .arrays .cursor ⌝ }
+    ensures records { λ _. ⌜ now (records .exit) ≡ served (onWalk (now (words .entry)) (now (cursor .entry)) (now (records .entry))) next .arrays .records ⌝ }
+    ensures answer { λ _. ⌜ now (answer .exit) ≡ fill (now (answer .entry)) 0 (answerWords (served (onWalk (now (words .entry)) (now (cursor .entry)) (now (records .entry))) next .answer)) ⌝ }
+    ensures number { λ r. ⌜ r ≡ getD (answerWords (served (onWalk (now (words .entry)) (now (cursor .entry)) (now (records .entry))) next .answer)) 0 0 ⌝ }
 {
     let step = byvalue::next_words(words, cursor_in(&cursor[..]), records);
     let after = step.cursor;
-    cursor_out(cursor, after);
     let given = step.answer;
+    cursor_out(cursor, after, given);
     let n = answers::next_leaf_numbers(given);
     answers::write(answer, n);
     n.number

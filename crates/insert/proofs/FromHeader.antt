@@ -2,13 +2,13 @@
 use Prim.Native.Nat.{ℕ, _<_}
 use mathlib.Core.List.{List}
 use mathlib.Core.Path.{_≡_, refl, sym, _∙_, subst}
-use Rattle.model.specs.Words.{capacity, pool, root, freeHead, freeCount}
+use Rattle.model.specs.Words.{lent, capacity, pool, root, freeHead, freeCount}
 use Rattle.model.specs.Tree.{Limit, Open}
 use Rattle.model.specs.Reading.{Reached, unsound, leaf, rootLeaf, toRight}
 use Rattle.model.specs.Refusals.{Answer, refused, Outcome, refusal}
 use Rattle.model.specs.Append.{appendTo, insertRowPage}
 use Rattle.model.specs.declared.answer.Refusal.{Refusal}
-use Rattle.node.specs.Layout.{Fits, storeHeader, opened}
+use Rattle.node.specs.Layout.{shapeOf, Fits, storeHeader, opened}
 use Rattle.node.specs.declared.header.StoreHeader.{StoreHeader}
 use Rattle.node.specs.declared.header.Opened.the-variants.{Open as Opens, Refused}
 use Rattle.node.proofs.Opened.{is-open, is-refused, goes-on, opens-fits}
@@ -17,7 +17,7 @@ use Rattle.insert.proofs.RightEdge.{ready}
 
 -- the right leaf of an open store
 abbrev pub right : List ℕ → StoreHeader → Reached
-right w h = rootLeaf (toRight (h .layout .capacity) w) (h .layout .capacity) (h .layout .pool) w (h .root .0)
+right w h = rootLeaf (toRight (shapeOf (h .layout)) w) (shapeOf (h .layout)) (h .layout .pool) w (h .root .0)
 
 module _ (w : List ℕ) (h : StoreHeader) (e : opened w ≡ Opens h) where
   is-header : h ≡ storeHeader w
@@ -29,28 +29,28 @@ module _ (w : List ℕ) (h : StoreHeader) (e : opened w ≡ Opens h) where
   pub open-chain : (h .«free_head» .0 ≡ freeHead w) × (h .«free_count» ≡ freeCount w)
   open-chain = subst (λ (z : StoreHeader). (z .«free_head» .0 ≡ freeHead w) × (z .«free_count» ≡ freeCount w)) (sym is-header) (refl, refl)
 
-  pub leaf-ready : (l : ℕ) (b : Limit) → right w h ≡ leaf l b → Ready (h .layout .capacity) (h .layout .pool) w (h .root .0) l
-  leaf-ready l b q = ready (h .layout .capacity) (h .layout .pool) w (h .root .0) l b (open-fits .1) q
+  pub leaf-ready : (l : ℕ) (b : Limit) → right w h ≡ leaf l b → Ready (shapeOf (h .layout)) (h .layout .pool) w (h .root .0) l
+  leaf-ready l b q = ready (shapeOf (h .layout)) (h .layout .pool) w (h .root .0) l b (open-fits .1) q
 
 module _ (w : List ℕ) (k x : ℕ) where
   abbrev refuse : Answer → Outcome
   refuse a = record { answer = a; words = w }
 
-  pub insert-refused : (r : Refusal) → opened w ≡ Refused r → insertRowPage w k x ≡ record { answer = refusal r; words = w }
+  pub insert-refused : (r : Refusal) → opened w ≡ Refused r → insertRowPage lent w k x ≡ record { answer = refusal r; words = w }
   unfolding insertRowPage
   insert-refused r e = is-refused w r e refuse _
 
   module _ (h : StoreHeader) (e : opened w ≡ Opens h) where
-    insert-open : insertRowPage w k x ≡ appendTo (h .layout .capacity) (h .layout .pool) w (h .root .0) k x (right w h)
+    insert-open : insertRowPage lent w k x ≡ appendTo (shapeOf (h .layout)) (h .layout .pool) w (h .root .0) k x (right w h)
     unfolding insertRowPage
     insert-open =
-        subst (λ (z : StoreHeader). insertRowPage w k x ≡ appendTo (z .layout .capacity) (z .layout .pool) w (z .root .0) k x (right w z)) (sym (is-header w h e))
+        subst (λ (z : StoreHeader). insertRowPage lent w k x ≡ appendTo (shapeOf (z .layout)) (z .layout .pool) w (z .root .0) k x (right w z)) (sym (is-header w h e))
         (goes-on w h (is-open w h e) refuse _)
 
-    pub insert-unsound : (m : ℕ) → right w h ≡ unsound m → insertRowPage w k x ≡ record { answer = refused 2 m; words = w }
+    pub insert-unsound : (m : ℕ) → right w h ≡ unsound m → insertRowPage lent w k x ≡ record { answer = refused 2 m; words = w }
     unfolding appendTo
     insert-unsound m q = insert-open ∙ rw q
 
-    pub insert-leaf : (l : ℕ) (b : Limit) → right w h ≡ leaf l b → insertRowPage w k x ≡ appendTo (h .layout .capacity) (h .layout .pool) w (h .root .0) k x (leaf l Open)
+    pub insert-leaf : (l : ℕ) (b : Limit) → right w h ≡ leaf l b → insertRowPage lent w k x ≡ appendTo (shapeOf (h .layout)) (h .layout .pool) w (h .root .0) k x (leaf l Open)
     unfolding appendTo
     insert-leaf l b q = insert-open ∙ rw q

@@ -7,7 +7,7 @@ use mathlib.Core.Logic.{⊎-elim, _⊎_, inl, inr, _≢_}
 use native.Mathlib.Omega.{arith}
 use lib.Dec.{leb, ltb, eqb, leb→le, eqb→eq}
 use borrow.Author.Tests.{lt-ltb, le-ltb, eq-eqb, ne-eqb, ltb-true, leb-true}
-use Rattle.model.specs.Words.{pick, height, count, start, end, row, child, freeCount, rowLimit, maxHeight}
+use Rattle.model.specs.Words.{Shape, pick, height, count, start, end, row, child, freeCount, rowLimit, maxHeight}
 use Rattle.model.specs.Tree.{Limit, Open, nodeAt, sound, endSound, emptyRoot}
 use Rattle.model.specs.Reading.{unsound, leaf, nextRow, checked, descend, rootLeaf, toRight}
 use Rattle.model.specs.Append.{Room, appendStart, roomFrom, room}
@@ -22,7 +22,7 @@ same-leaf : (n l : ℕ) (b c : Limit) → leaf n b ≡ leaf l c → n ≡ l
 same-leaf n l b c e = cc
 
 -- where the next rows begin
-module _ (C : ℕ) (w : List ℕ) (n : ℕ) where
+module _ (C : Shape) (w : List ℕ) (n : ℕ) where
   pub start-empty : count C w n ≡ 0 → appendStart C w n ≡ start C w n
   unfolding appendStart
   start-empty e = rw (eq-eqb (count C w n) 0 e)
@@ -49,7 +49,7 @@ module _ (C : ℕ) (w : List ℕ) (n : ℕ) where
       let l : start C w n ≤ rowLimit = leb→le (start C w n) rowLimit (search (and-l, and-r) depth 8) in
       (h, omega (arith, start-empty z))
 
-module _ (C P : ℕ) (w : List ℕ) where
+module _ (C : Shape) (P : ℕ) (w : List ℕ) where
   down : (h m n r : ℕ) (b : Limit) (l : ℕ) (c : Limit) → descend (toRight C w) C P w h m n r b ≡ leaf l c → Edge C P w h n × (l < P) × (appendStart C w l ≤ rowLimit)
   unfolding descend checked Edge
   down zero m n r b l c e =
@@ -92,14 +92,14 @@ module _ (C P : ℕ) (w : List ℕ) where
   edge-inside zero n q = q
   edge-inside (suc h) n q = q .0
 
-  pub edge-turn : (h n : ℕ) → Edge C P w h n → 0 < h → (1 ≤ count C w n) × (count C w n ≤ C) × Edge C P w (h - 1) (child C w n (count C w n - 1))
+  pub edge-turn : (h n : ℕ) → Edge C P w h n → 0 < h → (1 ≤ count C w n) × (count C w n ≤ C .cap) × Edge C P w (h - 1) (child C w n (count C w n - 1))
   unfolding Edge
   edge-turn zero n q l = absurd (omega arith)
   edge-turn (suc h) n q l = let e : suc h - 1 ≡ h = omega arith in rw e (q .1, q .2, q .3)
 
   -- a node of the edge that is not full
   abbrev Fit : ℕ → Room → Type 0
-  Fit h z = (z .needed ≤ h) × (z .node < P) × (count C w (z .node) < C)
+  Fit h z = (z .needed ≤ h) × (z .node < P) × (count C w (z .node) < C .cap)
 
   higher : (h : ℕ) (z : Room) → Fit h z → Fit (suc h) z
   higher h z f = (omega (arith, f .0), f .1, f .2)
@@ -108,16 +108,16 @@ module _ (C P : ℕ) (w : List ℕ) where
   found : (h n : ℕ) (o : Room) → Edge C P w h n → (roomFrom C w h n o ≡ o) ⊎ Fit h (roomFrom C w h n o)
   unfolding roomFrom Edge
   found zero n o q =
-      by-test (ltb (count C w n) C)
-      (λ t. rw t (inr (omega arith, q, ltb-true (count C w n) C t)))
+      by-test (ltb (count C w n) (C .cap))
+      (λ t. rw t (inr (omega arith, q, ltb-true (count C w n) (C .cap) t)))
       (λ t. rw t (inl refl))
   found (suc h) n o q =
       let c = child C w n (toRight C w n) in
       let here : Room = record { node = n; needed = suc h } in
-      by-test (ltb (count C w n) C)
+      by-test (ltb (count C w n) (C .cap))
       (λ t. let r : roomFrom C w (suc h) n o ≡ roomFrom C w h c here = rw t in
       subst (λ (z : Room). (z ≡ o) ⊎ Fit (suc h) z) (sym r) (⊎-elim
-      (λ (e : roomFrom C w h c here ≡ here). inr (subst (Fit (suc h)) (sym e) (omega arith, q .0, ltb-true (count C w n) C t)))
+      (λ (e : roomFrom C w h c here ≡ here). inr (subst (Fit (suc h)) (sym e) (omega arith, q .0, ltb-true (count C w n) (C .cap) t)))
       (λ f. inr (higher h (roomFrom C w h c here) f))
       (found h c here (q .3))))
       (λ t. let r : roomFrom C w (suc h) n o ≡ roomFrom C w h c o = rw t in
@@ -134,28 +134,28 @@ module _ (C P : ℕ) (w : List ℕ) where
       (found (height C w n) n (record { node = n; needed = height C w n + 2 }) (r .edge))
 
 -- a turn of the second pass
-module _ (C : ℕ) (w : List ℕ) where
+module _ (C : Shape) (w : List ℕ) where
   pub room-at : (h n : ℕ) → h ≡ height C w n → room C w n ≡ roomFrom C w h n (record { node = n; needed = h + 2 })
   unfolding room
   room-at h n e = rw e
 
-  turn : (h n : ℕ) (o : Room) → 0 < h → roomFrom C w h n o ≡ roomFrom C w (h - 1) (child C w n (count C w n - 1)) (pick (ltb (count C w n) C) (record { node = n; needed = h }) o)
+  turn : (h n : ℕ) (o : Room) → 0 < h → roomFrom C w h n o ≡ roomFrom C w (h - 1) (child C w n (count C w n - 1)) (pick (ltb (count C w n) (C .cap)) (record { node = n; needed = h }) o)
   unfolding roomFrom
   turn zero n o l = absurd (omega arith)
   turn (suc h) n o l = let e : suc h - 1 ≡ h = omega arith in rw e
 
-  pub room-here : (h n : ℕ) (o : Room) → 0 < h → count C w n < C → roomFrom C w h n o ≡ roomFrom C w (h - 1) (child C w n (count C w n - 1)) (record { node = n; needed = h })
-  room-here h n o l t = turn h n o l ∙ rw (lt-ltb (count C w n) C t)
+  pub room-here : (h n : ℕ) (o : Room) → 0 < h → count C w n < C .cap → roomFrom C w h n o ≡ roomFrom C w (h - 1) (child C w n (count C w n - 1)) (record { node = n; needed = h })
+  room-here h n o l t = turn h n o l ∙ rw (lt-ltb (count C w n) (C .cap) t)
 
-  pub room-full : (h n : ℕ) (o : Room) → 0 < h → C ≤ count C w n → roomFrom C w h n o ≡ roomFrom C w (h - 1) (child C w n (count C w n - 1)) o
-  room-full h n o l t = turn h n o l ∙ rw (le-ltb (count C w n) C t)
+  pub room-full : (h n : ℕ) (o : Room) → 0 < h → C .cap ≤ count C w n → roomFrom C w h n o ≡ roomFrom C w (h - 1) (child C w n (count C w n - 1)) o
+  room-full h n o l t = turn h n o l ∙ rw (le-ltb (count C w n) (C .cap) t)
 
-  pub leaf-here : (h n : ℕ) (o : Room) → h ≤ 0 → count C w n < C → roomFrom C w h n o ≡ record { node = n; needed = 0 }
+  pub leaf-here : (h n : ℕ) (o : Room) → h ≤ 0 → count C w n < C .cap → roomFrom C w h n o ≡ record { node = n; needed = 0 }
   unfolding roomFrom
-  leaf-here zero n o l t = rw (lt-ltb (count C w n) C t)
+  leaf-here zero n o l t = rw (lt-ltb (count C w n) (C .cap) t)
   leaf-here (suc h) n o l t = absurd (omega arith)
 
-  pub leaf-full : (h n : ℕ) (o : Room) → h ≤ 0 → C ≤ count C w n → roomFrom C w h n o ≡ o
+  pub leaf-full : (h n : ℕ) (o : Room) → h ≤ 0 → C .cap ≤ count C w n → roomFrom C w h n o ≡ o
   unfolding roomFrom
-  leaf-full zero n o l t = rw (le-ltb (count C w n) C t)
+  leaf-full zero n o l t = rw (le-ltb (count C w n) (C .cap) t)
   leaf-full (suc h) n o l t = absurd (omega arith)

@@ -8,7 +8,7 @@ use native.Mathlib.Omega.{arith}
 use lib.ListN.{set}
 use lib.Dec.{leb, ltb, eqb}
 use borrow.Author.Tests.{lt-ltb, le-ltb, eq-eqb, ne-eqb, ltb-false}
-use Rattle.model.specs.Words.{pick, height, count, freeHead, freeCount, rowLimit, maxHeight}
+use Rattle.model.specs.Words.{Shape, pick, height, count, freeHead, freeCount, rowLimit, maxHeight}
 use Rattle.model.specs.Tree.{Limit}
 use Rattle.model.specs.Reading.{leaf}
 use Rattle.model.specs.Refusals.{result, damaged, Outcome, refusal}
@@ -89,7 +89,7 @@ not-highest h m a b = rw (lt-ltb h m a, ne-eqb h maxHeight b)
 pub no-split : (h m : ℕ) → m ≤ h → (ltb h m && eqb h maxHeight) ≡ false
 no-split h m a = rw (le-ltb h m a)
 
-module _ (C P : ℕ) (w : List ℕ) (n k x l : ℕ) (b : Limit) where
+module _ (C : Shape) (P : ℕ) (w : List ℕ) (n k x l : ℕ) (b : Limit) where
   append-ruled : appendTo C P w n k x (leaf l b) ≡ ruled w (placed C P w n (appendStart C w l) (appendStart C w l + k) x (room C w n)) (checked k (appendStart C w l) (height C w n) (room C w n .needed) (freeCount w))
   unfolding appendTo checked placed
   append-ruled =
@@ -112,7 +112,7 @@ module _ (C P : ℕ) (w : List ℕ) (n k x l : ℕ) (b : Limit) where
 
 -- The writes ---------------------------------------------------------------------------------------------
 
-module _ (C P : ℕ) (w : List ℕ) (n s e x : ℕ) (o : Room) where
+module _ (C : Shape) (P : ℕ) (w : List ℕ) (n s e x : ℕ) (o : Room) where
   pub placed-bad : chainSound C P w (freeHead w) [] (o .needed) ≡ false → placed C P w n s e x o ≡ record { answer = damaged; words = w }
   unfolding placed
   placed-bad t = rw t
@@ -125,7 +125,7 @@ module _ (C P : ℕ) (w : List ℕ) (n s e x : ℕ) (o : Room) where
 
 -- The nodes wanted ---------------------------------------------------------------------------------------
 
-module _ (C P : ℕ) (w : List ℕ) where
+module _ (C : Shape) (P : ℕ) (w : List ℕ) where
   firsts-inside : (a : ℕ) (seen : List ℕ) (k : ℕ) → chainSound C P w a seen k ≡ true → Inside P (firsts C w a k)
   unfolding chainSound firsts Inside
   firsts-inside a seen zero t = tt

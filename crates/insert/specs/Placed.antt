@@ -3,7 +3,7 @@ use Prim.Native.Nat.{ℕ, _+_}
 use mathlib.Core.List.{List, [], _∷_}
 use mathlib.Core.Bool.{_&&_, _||_}
 use lib.Dec.{ltb, eqb}
-use Rattle.model.specs.Words.{pick, freeHead, rowLimit, maxHeight}
+use Rattle.model.specs.Words.{Shape, pick, freeHead, rowLimit, maxHeight}
 use Rattle.model.specs.Refusals.{result, damaged, Outcome}
 use Rattle.model.specs.Append.{Room, chainSound, appendAt}
 use Rattle.model.specs.declared.answer.Refusal.the-variants.{RowLimit, HeightLimit, NoRoom}
@@ -18,7 +18,7 @@ checked k s h m free =
     pick (eqb k 0 || ltb rowLimit (s + k)) (Refused RowLimit) six
 
 -- "then 2 for the chain nodes wanted": page x with rows s to e goes to o
-unfoldable pub placed : ℕ → ℕ → List ℕ → ℕ → ℕ → ℕ → ℕ → Room → Outcome
+unfoldable pub placed : Shape → ℕ → List ℕ → ℕ → ℕ → ℕ → ℕ → Room → Outcome
 placed C P w n s e x o =
     let done : Outcome = record { answer = result (s ∷ e ∷ o .needed ∷ []); words = appendAt C w n s e x o } in
     pick (chainSound C P w (freeHead w) [] (o .needed)) done (record { answer = damaged; words = w })

@@ -4,12 +4,12 @@ ghost use mathlib.Core.Path.{_≡_};
 ghost use mathlib.Core.Logic.{_≢_};
 ghost use Prim.Native.Nat.{_+_, _<_};
 ghost use lib.Dec.{leb};
-ghost use Rattle.model.specs.Words.{freeCount, freeHead, height, pick};
+ghost use Rattle.model.specs.Words.{lent, freeCount, freeHead, height, pick};
 ghost use Rattle.model.specs.Tree.{Open};
 ghost use Rattle.model.specs.Reading.{leaf};
 ghost use Rattle.model.specs.Refusals.{inserted};
 ghost use Rattle.model.specs.Append.{appendTo, hang, insertRowPage, splitRoot};
-ghost use Rattle.node.specs.Layout.{Fits};
+ghost use Rattle.node.specs.Layout.{Fits, shapeOf};
 ghost use Rattle.pool.specs.Write.{listed};
 ghost use Rattle.grow.specs.Inside.{Inside, numberAt};
 ghost use Rattle.insert.specs.Room.{Ready, Usable, roomOf};
@@ -38,9 +38,9 @@ pub mod room;
 // The page goes to the node with room; where none has room, the root splits.
 fn grow_tree(l: Layout, s: &mut [u64], root: NodeNo, room: Room, new: NewPage, nodes: [NodeNo; 32])
     requires { ⌜ Fits l (now s) ⌝ }
-    requires { ⌜ (root .0 < l .pool) × Usable (l .capacity) (l .pool) (now s) (root .0) (roomOf room) ⌝ }
+    requires { ⌜ (root .0 < l .pool) × Usable (shapeOf l) (l .pool) (now s) (root .0) (roomOf room) ⌝ }
     requires { ⌜ Inside (l .pool) (listed nodes 0 (room .needed)) × (0 < room .needed → root .0 ≢ numberAt nodes 0) ⌝ }
-    ensures { λ _. ⌜ now (s .exit) ≡ pick (leb (room .needed) (height (l .capacity) (now (s .entry)) (root .0))) (hang (l .capacity) (now (s .entry)) (room .node .0) (new .start .0) (new .end .0) (new .page .0) (listed nodes 0 (room .needed))) (splitRoot (l .capacity) (now (s .entry)) (root .0) (new .start .0) (new .end .0) (new .page .0) (listed nodes 0 (room .needed))) ⌝ }
+    ensures { λ _. ⌜ now (s .exit) ≡ pick (leb (room .needed) (height (shapeOf l) (now (s .entry)) (root .0))) (hang (shapeOf l) (now (s .entry)) (room .node .0) (new .start .0) (new .end .0) (new .page .0) (listed nodes 0 (room .needed))) (splitRoot (shapeOf l) (now (s .entry)) (root .0) (new .start .0) (new .end .0) (new .page .0) (listed nodes 0 (room .needed))) ⌝ }
 {
     let k = room.needed as usize;
     let height = l.part(&s[..], root, 0);
@@ -55,9 +55,9 @@ fn grow_tree(l: Layout, s: &mut [u64], root: NodeNo, room: Room, new: NewPage, n
 fn place_page(s: &mut [u64], h: StoreHeader, new: NewPage, room: Room) -> Inserted
     requires { ⌜ Fits (h .layout) (now s) ⌝ }
     requires { ⌜ (h .root .0 < h .layout .pool) × (h .«free_head» .0 ≡ freeHead (now s)) × (h .«free_count» ≡ freeCount (now s)) ⌝ }
-    requires { ⌜ Usable (h .layout .capacity) (h .layout .pool) (now s) (h .root .0) (roomOf room) ⌝ }
-    ensures answer { λ r. ⌜ inserted r ≡ placed (h .layout .capacity) (h .layout .pool) (now (s .entry)) (h .root .0) (new .start .0) (new .end .0) (new .page .0) (roomOf room) .answer ⌝ }
-    ensures words { λ r. ⌜ now (s .exit) ≡ placed (h .layout .capacity) (h .layout .pool) (now (s .entry)) (h .root .0) (new .start .0) (new .end .0) (new .page .0) (roomOf room) .words ⌝ }
+    requires { ⌜ Usable (shapeOf (h .layout)) (h .layout .pool) (now s) (h .root .0) (roomOf room) ⌝ }
+    ensures answer { λ r. ⌜ inserted r ≡ placed (shapeOf (h .layout)) (h .layout .pool) (now (s .entry)) (h .root .0) (new .start .0) (new .end .0) (new .page .0) (roomOf room) .answer ⌝ }
+    ensures words { λ r. ⌜ now (s .exit) ≡ placed (shapeOf (h .layout)) (h .layout .pool) (now (s .entry)) (h .root .0) (new .start .0) (new .end .0) (new .page .0) (roomOf room) .words ⌝ }
 {
     let l = h.layout;
     let wanted = chain::read_chain(l, &s[..], h.free_head, room.needed as usize);
@@ -81,9 +81,9 @@ fn place_page(s: &mut [u64], h: StoreHeader, new: NewPage, room: Room) -> Insert
 fn insert_after(s: &mut [u64], h: StoreHeader, last: NodeNo, count: u64, page: PageID) -> Inserted
     requires { ⌜ Fits (h .layout) (now s) ⌝ }
     requires { ⌜ (h .root .0 < h .layout .pool) × (h .«free_head» .0 ≡ freeHead (now s)) × (h .«free_count» ≡ freeCount (now s)) ⌝ }
-    requires { ⌜ Ready (h .layout .capacity) (h .layout .pool) (now s) (h .root .0) (last .0) ⌝ }
-    ensures answer { λ r. ⌜ inserted r ≡ appendTo (h .layout .capacity) (h .layout .pool) (now (s .entry)) (h .root .0) count (page .0) (leaf (last .0) Open) .answer ⌝ }
-    ensures words { λ r. ⌜ now (s .exit) ≡ appendTo (h .layout .capacity) (h .layout .pool) (now (s .entry)) (h .root .0) count (page .0) (leaf (last .0) Open) .words ⌝ }
+    requires { ⌜ Ready (shapeOf (h .layout)) (h .layout .pool) (now s) (h .root .0) (last .0) ⌝ }
+    ensures answer { λ r. ⌜ inserted r ≡ appendTo (shapeOf (h .layout)) (h .layout .pool) (now (s .entry)) (h .root .0) count (page .0) (leaf (last .0) Open) .answer ⌝ }
+    ensures words { λ r. ⌜ now (s .exit) ≡ appendTo (shapeOf (h .layout)) (h .layout .pool) (now (s .entry)) (h .root .0) count (page .0) (leaf (last .0) Open) .words ⌝ }
 {
     let l = h.layout;
     let start = room::range_start(l, &s[..], last);
@@ -100,8 +100,8 @@ fn insert_after(s: &mut [u64], h: StoreHeader, last: NodeNo, count: u64, page: P
 
 // The page gets the next count rows.
 pub fn insert_row_page(s: &mut [u64], count: u64, page: PageID) -> Inserted
-    ensures answer { λ r. ⌜ inserted r ≡ insertRowPage (now (s .entry)) count (page .0) .answer ⌝ }
-    ensures words { λ r. ⌜ now (s .exit) ≡ insertRowPage (now (s .entry)) count (page .0) .words ⌝ }
+    ensures answer { λ r. ⌜ inserted r ≡ insertRowPage lent (now (s .entry)) count (page .0) .answer ⌝ }
+    ensures words { λ r. ⌜ now (s .exit) ≡ insertRowPage lent (now (s .entry)) count (page .0) .words ⌝ }
 {
     match header::open(&s[..]) {
         Opened::Refused(r) => Inserted::Refused(r),

@@ -4,7 +4,7 @@ ghost use mathlib.Core.Path.{_≡_};
 ghost use Prim.Native.Nat.{_+_, _-_, _≤_, _<_};
 ghost use Rattle.model.specs.Words.{height, maxHeight};
 ghost use Rattle.model.specs.Append.{appendStart, room};
-ghost use Rattle.node.specs.Layout.{Fits};
+ghost use Rattle.node.specs.Layout.{Fits, shapeOf};
 ghost use Rattle.insert.specs.Room.{Edge, roomOf};
 use model::id::NodeNo;
 use model::id::RowID;
@@ -20,7 +20,7 @@ pub struct Room {
 pub fn range_start(l: Layout, s: &[u64], n: NodeNo) -> RowID
     requires { ⌜ Fits l (now s) ⌝ }
     requires { ⌜ n .0 < l .pool ⌝ }
-    ensures { λ r. ⌜ r .0 ≡ appendStart (l .capacity) (now (s .entry)) (n .0) ⌝ }
+    ensures { λ r. ⌜ r .0 ≡ appendStart (shapeOf l) (now (s .entry)) (n .0) ⌝ }
 {
     let h = l.header(s, n);
     let empty = h.is_empty();
@@ -33,8 +33,8 @@ pub fn range_start(l: Layout, s: &[u64], n: NodeNo) -> RowID
 // The lowest node of the right edge with room; the edge was tested, so counts alone are read.
 pub fn find_room(l: Layout, s: &[u64], root: NodeNo) -> Room
     requires { ⌜ Fits l (now s) ⌝ }
-    requires { ⌜ (height (l .capacity) (now s) (root .0) ≤ maxHeight) × Edge (l .capacity) (l .pool) (now s) (height (l .capacity) (now s) (root .0)) (root .0) ⌝ }
-    ensures { λ r. ⌜ roomOf r ≡ room (l .capacity) (now (s .entry)) (root .0) ⌝ }
+    requires { ⌜ (height (shapeOf l) (now s) (root .0) ≤ maxHeight) × Edge (shapeOf l) (l .pool) (now s) (height (shapeOf l) (now s) (root .0)) (root .0) ⌝ }
+    ensures { λ r. ⌜ roomOf r ≡ room (shapeOf l) (now (s .entry)) (root .0) ⌝ }
 {
     let height = l.part(s, root, 0);
     let mut n = root;

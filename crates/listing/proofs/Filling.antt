@@ -6,12 +6,12 @@ use native.Mathlib.Omega.{arith}
 use native.Mathlib.Nat.{add-zero}
 use native.Mathlib.Numerals.{add-one}
 use lib.ListN.{length, set}
-use Rattle.model.specs.Words.{fill, part, row, child}
+use Rattle.model.specs.Words.{Shape, fill, part, row, child}
 use Rattle.model.specs.LeafWalk.{pageEntry, records}
 use Rattle.model.specs.declared.node.PageEntry.{PageEntry}
 use Rattle.model.proofs.Fill.{length-fill, fill-snoc}
 
-module _ (C : ℕ) (w : List ℕ) (n : ℕ) where
+module _ (C : Shape) (w : List ℕ) (n : ℕ) where
   pub length-records : (i k : ℕ) → length (records C w n i k) ≡ k
   unfolding records
   length-records i zero = refl

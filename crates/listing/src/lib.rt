@@ -5,7 +5,7 @@ ghost use Prim.Native.Nat.{_<_, _≤_};
 ghost use lib.ListN.{length};
 ghost use Rattle.model.specs.Words.{child, fill, row};
 ghost use Rattle.model.specs.LeafWalk.{pageEntry};
-ghost use Rattle.node.specs.Layout.{Fits};
+ghost use Rattle.node.specs.Layout.{Fits, shapeOf};
 ghost use Rattle.listing.specs.Listing.{Readable, noEntries, recordsOf};
 use model::id::NodeNo;
 use model::node::PageEntry;
@@ -36,7 +36,7 @@ impl LeafEntries {
 // Entry i as a record.
 fn entry_at(s: &[u64], e: LeafEntries, i: usize) -> PageEntry
     requires { ⌜ Fits (e .layout) (now s) × ((e .leaf .0 < e .layout .pool) × (i < e .layout .capacity)) ⌝ }
-    ensures { λ r. ⌜ r ≡ pageEntry (row (e .layout .capacity) (now (s .entry)) (e .leaf .0) i) (child (e .layout .capacity) (now (s .entry)) (e .leaf .0) i) ⌝ }
+    ensures { λ r. ⌜ r ≡ pageEntry (row (shapeOf (e .layout)) (now (s .entry)) (e .leaf .0) i) (child (shapeOf (e .layout)) (now (s .entry)) (e .leaf .0) i) ⌝ }
 {
     let l = e.layout;
     let n = e.leaf;

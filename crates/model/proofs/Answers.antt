@@ -21,6 +21,30 @@ use Rattle.model.specs.declared.answer.Destroyed.the-variants as D
 use Rattle.model.specs.declared.answer.Checked.{Checked}
 use Rattle.model.specs.declared.answer.Checked.the-variants as Ch
 
+-- A refusal is a number and a detail, and no result.
+pub record IsRefusal (a : Answer) : Type 0 where
+  pub number : ℕ
+  pub detail : ℕ
+  pub is : a ≡ refused number detail
+
+numbered : (n d : ℕ) → IsRefusal (refused n d)
+numbered n d = record { number = n; detail = d; is = refl }
+
+pub is-refusal : (r : Refusal) → IsRefusal (refusal r)
+is-refusal R.BadParameters = numbered 1 0
+is-refusal (R.Unsound n) = numbered 2 (n .0)
+is-refusal R.Closed = numbered 3 0
+is-refusal R.RowLimit = numbered 4 0
+is-refusal (R.NoRoom needed) = numbered 5 needed
+is-refusal R.HeightLimit = numbered 6 0
+is-refusal R.NoPrefix = numbered 7 0
+is-refusal (R.StartDiffers start) = numbered 8 (start .0)
+is-refusal (R.PageDiffers place) = numbered 9 place
+is-refusal (R.EndDiffers place) = numbered 10 place
+is-refusal (R.ListTooLong held) = numbered 11 held
+is-refusal (R.RowBelowPivot row) = numbered 12 (row .0)
+is-refusal (R.ListTooShort wanted) = numbered 13 wanted
+
 -- the refusal of a number and a detail: number 0 and those above 13 are none
 abbrev refusalOf : ℕ → ℕ → Refusal
 refusalOf k d =

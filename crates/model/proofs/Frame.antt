@@ -7,33 +7,33 @@ use native.Mathlib.Omega.{arith}
 use native.Mathlib.Nat.{zero-add, add-assoc, eq-or-lt-of-le}
 use lib.ListN.{length}
 use borrow.Author.Tests.{eq-eqb}
-use Rattle.model.specs.Words.{part, count, row, child, rowPlace, childPlace, nodeSize}
+use Rattle.model.specs.Words.{Shape, part, count, row, child, rowPlace, childPlace, nodeSize}
 use Rattle.model.specs.Tree.{Node, Limit, Open, Below, Level, pairsFrom, nodeWith, level, allPairs}
 use Rattle.model.specs.Reading.{occ, inPairs, nodes}
 
 -- node n has the same words in w and in v
-abbrev pub Same : ℕ → List ℕ → List ℕ → ℕ → Type 0
-Same C w v n = (j : ℕ) → j < nodeSize C → part C w n j ≡ part C v n j
+abbrev pub Same : Shape → List ℕ → List ℕ → ℕ → Type 0
+Same C w v n = (j : ℕ) → j < nodeSize (C .cap) → part C w n j ≡ part C v n j
 
 -- no node has more than C pairs
-unfoldable pub Narrow : ℕ → (h : ℕ) → Level h → Type 0
+unfoldable pub Narrow : Shape → (h : ℕ) → Level h → Type 0
 Narrow C zero x = Unit {0}
-Narrow C (suc h) t = (length (t .pairs) ≤ C) × allPairs (λ x r b. Narrow C h x) (t .pairs) Open
+Narrow C (suc h) t = (length (t .pairs) ≤ C .cap) × allPairs (λ x r b. Narrow C h x) (t .pairs) Open
 
-module _ (C : ℕ) (w v : List ℕ) (n : ℕ) (s : Same C w v n) where
-  pub same-pairs : {K : Type 0} (f g : ℕ → K) (i k : ℕ) → i + k ≤ C → ((j : ℕ) → i ≤ j → j < i + k → f (child C w n j) ≡ g (child C w n j))
+module _ (C : Shape) (w v : List ℕ) (n : ℕ) (s : Same C w v n) where
+  pub same-pairs : {K : Type 0} (f g : ℕ → K) (i k : ℕ) → i + k ≤ C .cap → ((j : ℕ) → i ≤ j → j < i + k → f (child C w n j) ≡ g (child C w n j))
       → pairsFrom C w f n i k ≡ pairsFrom C v g n i k
   unfolding pairsFrom
   same-pairs f g i zero h e = refl
   same-pairs f g i (suc k) h e =
-      rw (s (rowPlace C i) (omega arith), e i (omega arith) (omega arith), s (childPlace C i) (omega arith), same-pairs f g (i + 1) k (omega arith) (λ j a b. e j (omega arith) (omega arith)))
+      rw (s (rowPlace i) (omega arith), e i (omega arith) (omega arith), s (childPlace i) (omega arith), same-pairs f g (i + 1) k (omega arith) (λ j a b. e j (omega arith) (omega arith)))
 
 -- what lies at the path below n
-unfoldable pub Agree : ℕ → List ℕ → List ℕ → ℕ → ℕ → Type 0
+unfoldable pub Agree : Shape → List ℕ → List ℕ → ℕ → ℕ → Type 0
 Agree C w v zero x = Unit {0}
-Agree C w v (suc h) n = (count C w n ≤ C) × Same C w v n × ((i : ℕ) → i < count C w n → Agree C w v h (child C w n i))
+Agree C w v (suc h) n = (count C w n ≤ C .cap) × Same C w v n × ((i : ℕ) → i < count C w n → Agree C w v h (child C w n i))
 
-pub frame : (C : ℕ) (w v : List ℕ) (h n : ℕ) → Agree C w v h n → level C w h n ≡ level C v h n
+pub frame : (C : Shape) (w v : List ℕ) (h n : ℕ) → Agree C w v h n → level C w h n ≡ level C v h n
 unfolding level Agree
 frame C w v zero n a = refl
 frame C w v (suc h) n a =
@@ -48,12 +48,12 @@ pub occ-self : (m : ℕ) → occ m (m ∷ []) ≡ 1
 unfolding occ
 occ-self m = rw (eq-eqb m m refl)
 
-pub length-pairs : {K : Type 0} (C : ℕ) (w : List ℕ) (f : ℕ → K) (n i k : ℕ) → length (pairsFrom C w f n i k) ≡ k
+pub length-pairs : {K : Type 0} (C : Shape) (w : List ℕ) (f : ℕ → K) (n i k : ℕ) → length (pairsFrom C w f n i k) ≡ k
 unfolding pairsFrom
 length-pairs C w f n i zero = refl
 length-pairs C w f n i (suc k) = ap suc (length-pairs C w f n (i + 1) k)
 
-module _ {K : Type 0} (C : ℕ) (w : List ℕ) (f : ℕ → K) (n : ℕ) where
+module _ {K : Type 0} (C : Shape) (w : List ℕ) (f : ℕ → K) (n : ℕ) where
   -- child j is among the pairs from i on
   pub occ-child : (g : K → List ℕ) (m i k j : ℕ) → i ≤ j → j < i + k → occ m (g (f (child C w n j))) ≤ occ m (inPairs g (pairsFrom C w f n i k))
   unfolding pairsFrom inPairs
@@ -74,11 +74,11 @@ module _ {K : Type 0} (C : ℕ) (w : List ℕ) (f : ℕ → K) (n : ℕ) where
       (λ (h : i < j). all-child Q (i + 1) k b (a .1) j (omega arith) (omega arith))
       (eq-or-lt-of-le l)
 
-pub nodes-self : (C : ℕ) (w : List ℕ) (h n m : ℕ) → occ m (nodes (suc h) (level C w (suc h) n)) ≡ occ m (inPairs (nodes h) (pairsFrom C w (level C w h) n 0 (count C w n))) + occ m (n ∷ [])
+pub nodes-self : (C : Shape) (w : List ℕ) (h n m : ℕ) → occ m (nodes (suc h) (level C w (suc h) n)) ≡ occ m (inPairs (nodes h) (pairsFrom C w (level C w h) n 0 (count C w n))) + occ m (n ∷ [])
 unfolding nodes level
 nodes-self C w h n m = occ-append m (inPairs (nodes h) (pairsFrom C w (level C w h) n 0 (count C w n))) (n ∷ [])
 
-pub agree : (C : ℕ) (w v : List ℕ) (h n : ℕ) → Narrow C h (level C w h n) → ((m : ℕ) → 0 < occ m (nodes h (level C w h n)) → Same C w v m) → Agree C w v h n
+pub agree : (C : Shape) (w v : List ℕ) (h n : ℕ) → Narrow C h (level C w h n) → ((m : ℕ) → 0 < occ m (nodes h (level C w h n)) → Same C w v m) → Agree C w v h n
 unfolding Agree Narrow level
 agree C w v zero n a s = tt
 agree C w v (suc h) n a s = (
@@ -89,7 +89,7 @@ agree C w v (suc h) n a s = (
 )
 
 -- the frame law
-pub kept : (C : ℕ) (w v : List ℕ) (h n : ℕ) → Narrow C h (level C w h n) → ((m : ℕ) → 0 < occ m (nodes h (level C w h n)) → Same C w v m) → level C w h n ≡ level C v h n
+pub kept : (C : Shape) (w v : List ℕ) (h n : ℕ) → Narrow C h (level C w h n) → ((m : ℕ) → 0 < occ m (nodes h (level C w h n)) → Same C w v m) → level C w h n ≡ level C v h n
 kept C w v h n a s = frame C w v h n (agree C w v h n a s)
 
 pub occ-nil : (m : ℕ) → occ m [] ≡ 0

@@ -1,5 +1,6 @@
 pub mod Tests
 pub mod Words
+pub mod Header
 pub mod Sound
 pub mod Frame
 pub mod Once
@@ -10,3 +11,4 @@ pub mod Paths
 pub mod Writes
 pub mod Answers
 pub mod Fill
+pub mod Still

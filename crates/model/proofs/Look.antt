@@ -6,7 +6,7 @@ use mathlib.Core.Path.{_≡_, refl, sym, ap, _∙_, subst}
 use native.Mathlib.Omega.{arith}
 use lib.Dec.{T, leb, ltb, eqb}
 use borrow.Author.Tests.{le-ltb, le-leb, lt-leb, leb-true, leb-false}
-use Rattle.model.specs.Words.{pick}
+use Rattle.model.specs.Words.{Shape, pick}
 use Rattle.model.specs.Tree.{Node, Limit, Open, Below, Level, next, last, overPairs, allPairs, Under, AllSound}
 use Rattle.model.specs.Reading.{Entry, entries}
 use Rattle.model.specs.Lookup.{under, entryFind}
@@ -112,7 +112,7 @@ module _ {K : Type 0} (Q : K → ℕ → Limit → Type 0) (below : (x : K) (r :
             (λ e. rw (e, over-look f q k, right (k .1) (k .0) (k₂ .0) (g .0) (leb-true _ _ e)) (chosen k₂ ks b (g .1) (leb-true _ _ e)))
             (λ e. rw (e, over-look f q k, before k₂ ks b (g .1) (leb-false _ _ e), orElse-nothing) (here (k .1) (k .0) (Below (k₂ .0)) (g .0) h))
 
-module _ (C P q : ℕ) where
+module _ (C : Shape) (P q : ℕ) where
   pub all-begins : (h : ℕ) (t : Level (suc h)) (r : ℕ) (b : Limit) → AllSound C P (suc h) t r b → Begins r (t .pairs)
   unfolding AllSound
   all-begins h t r b g = sound-begins C h t r b (g .1)

@@ -8,7 +8,7 @@ use native.Mathlib.Nat.{zero-add}
 use lib.ListN.{length}
 use lib.Dec.{T, leb, ltb, eqb, ltb→lt, eqb→eq}
 use borrow.Author.Tests.{lt-ltb, le-ltb, le-leb, lt-leb, ne-eqb, eq-eqb, ltb-true, ltb-false}
-use Rattle.model.specs.Words.{pick, part, height, count, start, end, row, child, NONE, rowLimit, maxHeight}
+use Rattle.model.specs.Words.{Shape, pick, part, height, count, start, end, row, child, NONE, rowLimit, maxHeight}
 use Rattle.model.specs.Tree.{Node, nodeAt, Limit, Open, Below, pairsFrom, sound, emptyRoot, rootSound, Level, level, last, overPairs, allPairs, Under, AllSound}
 use Rattle.model.specs.Reading.{Reached, unsound, leaf, nextRow, checked, descend, rootLeaf, lastNotAbove, toRow, entries, rootEntries}
 use Rattle.model.specs.WellFormed.{EmptyRoot, SoundRoot, emptyTree, soundTree}
@@ -21,7 +21,7 @@ use Rattle.model.proofs.Once.{own, some-pairs}
 use Rattle.model.proofs.Look.{Found, nothing, found, hit, look, Chosen, choose, fromPairs, findAt, locate, entry-find, find-look, all-left}
 use Rattle.model.proofs.Place.{nextAt, all-at, risen, forth, choose-at, Stands, forth-stands, place-is}
 
-module _ (C P : ℕ) (w : List ℕ) (q : ℕ) where
+module _ (C : Shape) (P : ℕ) (w : List ℕ) (q : ℕ) where
   -- what a sound node n of k + 1 entries shows, at the place of row q
   pub record At (h n r : ℕ) (b : Limit) : Type 0 where
     pub more : ℕ
@@ -130,23 +130,23 @@ module _ (C P : ℕ) (w : List ℕ) (q : ℕ) where
       ∙ ap locate (sym (a .chosen))
 
 -- a root that holds entries is not the empty one
-pub not-empty : (C P : ℕ) (w : List ℕ) (h n r : ℕ) (b : Limit) → AllSound C P (suc h) (level C w (suc h) n) r b → emptyRoot C w n ≡ false
+pub not-empty : (C : Shape) (P : ℕ) (w : List ℕ) (h n r : ℕ) (b : Limit) → AllSound C P (suc h) (level C w (suc h) n) r b → emptyRoot C w n ≡ false
 unfolding emptyRoot
 not-empty C P w h n r b g =
     let p : 0 < count C w n = some-pairs C P w h n r b g in
     rw (ne-eqb (count C w n) 0 (λ e. omega arith), and-false)
 
 -- an empty root is the empty one
-pub is-empty : (C : ℕ) (w : List ℕ) (n : ℕ) → EmptyRoot C w n → emptyRoot C w n ≡ true
+pub is-empty : (C : Shape) (w : List ℕ) (n : ℕ) → EmptyRoot C w n → emptyRoot C w n ≡ true
 unfolding emptyRoot
 is-empty C w n e =
     rw (eq-eqb (height C w n) 0 (e .leaf), eq-eqb (count C w n) 0 (e .none), le-leb (start C w n) rowLimit (e .low), eq-eqb (end C w n) NONE (e .ends))
 
-no-entries : (C : ℕ) (w : List ℕ) (h n r : ℕ) (b : Limit) → count C w n ≡ 0 → entries (suc h) (level C w (suc h) n) r b ≡ []
+no-entries : (C : Shape) (w : List ℕ) (h n r : ℕ) (b : Limit) → count C w n ≡ 0 → entries (suc h) (level C w (suc h) n) r b ≡ []
 unfolding entries level pairsFrom overPairs
 no-entries C w h n r b e = rw e
 
-module _ (C P : ℕ) (w : List ℕ) (q n : ℕ) where
+module _ (C : Shape) (P : ℕ) (w : List ℕ) (q n : ℕ) where
   empty-finds : EmptyRoot C w n → findInTree C P w n q ≡ entryFind (rootEntries C w n) q
   unfolding findInTree rootSound rootLeaf foundIn entryFind
   empty-finds e =

@@ -8,7 +8,7 @@ use native.Mathlib.Omega.{arith}
 use lib.ListN.{length}
 use lib.Dec.{ltb, eqb}
 use borrow.Author.Tests.{eqb-true, eqb-false, ltb-true, ltb-false, ne-eqb}
-use Rattle.model.specs.Words.{part, height, count, start, end, row, child, freeMark}
+use Rattle.model.specs.Words.{Shape, part, height, count, start, end, row, child, freeMark}
 use Rattle.model.specs.Tree.{Limit, Open, Below, Level, pairsFrom, level, next, last, allPairs, Under, AllSound}
 use Rattle.model.specs.Reading.{occ, inPairs, nodes}
 use Rattle.model.proofs.Tests.{by-test}
@@ -47,7 +47,7 @@ occ-other m n d = rw (ne-eqb m n d)
 begins-some : {K : Type 0} {r : ℕ} {ps : List (ℕ × K)} → Begins r ps → 0 < length ps
 begins-some (begins x ps) = omega arith
 
-module _ (C P : ℕ) (w : List ℕ) where
+module _ (C : Shape) (P : ℕ) (w : List ℕ) where
   -- a good child that the words hold
   unfoldable pub Held : (g : ℕ) → Level g → ℕ → Limit → Type 0
   Held g x r b = AllSound C P g x r b × ((c : ℕ) × (x ≡ level C w g c))

@@ -9,14 +9,14 @@ use native.Mathlib.Omega.{arith}
 use native.Mathlib.Nat.{eq-or-lt-of-le, add-zero}
 use lib.Dec.{T, leb, ltb, eqb, ltb→lt}
 use borrow.Author.Tests.{lt-ltb, le-ltb, le-leb, lt-leb, leb-true, leb-false}
-use Rattle.model.specs.Words.{pick, part, row, child}
+use Rattle.model.specs.Words.{Shape, pick, part, row, child}
 use Rattle.model.specs.Tree.{Limit, Open, Below, pairsFrom, next, allPairs}
 use Rattle.model.specs.Reading.{lastNotAbove}
 use Rattle.model.proofs.Tests.{and-l, and-r, by-test}
 use Rattle.model.proofs.Sound.{rises}
 use Rattle.model.proofs.Look.{Chosen, choose}
 
-module _ (C : ℕ) (w : List ℕ) (n : ℕ) where
+module _ (C : Shape) (w : List ℕ) (n : ℕ) where
   -- entry j among entries i to i + k, and what is next for it
   abbrev pub nextAt : ℕ → Limit → ℕ → Limit
   nextAt e b j = pick (ltb (j + 1) e) (Below (row C w n (j + 1))) b

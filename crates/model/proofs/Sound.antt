@@ -6,7 +6,7 @@ use mathlib.Core.Path.{_≡_, refl, sym, ap, _∙_, subst}
 use native.Mathlib.Omega.{arith}
 use lib.ListN.{length}
 use lib.Dec.{T, leb, ltb, eqb, ltb→lt, leb→le, eqb→eq, eqb-refl, le→leb}
-use Rattle.model.specs.Words.{part, height, count, start, end, row, child, rowLimit}
+use Rattle.model.specs.Words.{Shape, part, height, count, start, end, row, child, rowLimit}
 use Rattle.model.specs.Tree.{Node, pairsFrom, nodeWith, nodeAt, Limit, Open, Below, rising, firstRow, lastRow, meets, endSound, sound, Level, next, last, allPairs, Under, AllSound}
 use Rattle.model.proofs.Tests.{and-l, and-r, both}
 
@@ -20,9 +20,9 @@ unfoldable pub rows : {K : Type 0} → (ℕ → Bool) → ℕ → List (ℕ × K
 rows z r [] = false
 rows z r (p ∷ ps) = eqb (p .0) r && rises z (p .0) ps
 
-pub record Soundly {K : Type 0} (C h : ℕ) (t : Node K) (r : ℕ) (b : Limit) : Type 0 where
+pub record Soundly {K : Type 0} (C : Shape) (h : ℕ) (t : Node K) (r : ℕ) (b : Limit) : Type 0 where
   pub high : t .height ≡ h
-  pub many : length (t .pairs) ≤ C
+  pub many : length (t .pairs) ≤ C .cap
   pub begin : t .start ≡ r
   pub rise : T (rows (endSound h b (t .end)) r (t .pairs))
 
@@ -53,14 +53,14 @@ of-rows z r (p ∷ ps) a =
     let i = of-rises z p ps (and-r (eqb (p .0) r) (rises z (p .0) ps) a) in
     (le→leb 1 (length (p ∷ ps)) (omega arith), i .0, eqb→eq (p .0) r (and-l (eqb (p .0) r) (rises z (p .0) ps) a), i .1)
 
-module _ {K : Type 0} (C h : ℕ) (t : Node K) (r : ℕ) (b : Limit) where
+module _ {K : Type 0} (C : Shape) (h : ℕ) (t : Node K) (r : ℕ) (b : Limit) where
   pub soundly : T (sound C h t r b) → Soundly C h t r b
   unfolding sound
   soundly s =
       let e : t .start ≡ r = eqb→eq (t .start) r (search (and-l, and-r) depth 8) in
       record {
         high = eqb→eq (t .height) h (search (and-l, and-r) depth 8);
-        many = leb→le (length (t .pairs)) C (search (and-l, and-r) depth 8);
+        many = leb→le (length (t .pairs)) (C .cap) (search (and-l, and-r) depth 8);
         begin = e;
         rise = rows-of (endSound h b (t .end)) (t .start) r (t .pairs) (search (and-l, and-r) depth 8) (search (and-l, and-r) depth 8) (search (and-l, and-r) depth 8) e (search (and-l, and-r) depth 8);
       }
@@ -72,7 +72,7 @@ module _ {K : Type 0} (C h : ℕ) (t : Node K) (r : ℕ) (b : Limit) where
       let one : T (eqb (t .height) h) = subst (λ (x : ℕ). T (eqb (t .height) x)) (q .high) (eqb-refl (t .height)) in
       let five : T (eqb (t .start) (firstRow (t .pairs))) = subst (λ (x : ℕ). T (eqb (t .start) x)) (q .begin ∙ sym (i .2)) (eqb-refl (t .start)) in
       let six : T (eqb (t .start) r) = subst (λ (x : ℕ). T (eqb (t .start) x)) (q .begin) (eqb-refl (t .start)) in
-      search (both, one, i, le→leb (length (t .pairs)) C (q .many), five, six) depth 9
+      search (both, one, i, le→leb (length (t .pairs)) (C .cap) (q .many), five, six) depth 9
 
 -- The test does not look at what the numbers lead to -------------------------------------------------------
 
@@ -103,12 +103,12 @@ module _ {K : Type 0} (f : ℕ → K) where
   mapped-last (p ∷ []) = refl
   mapped-last (p ∷ q ∷ ps) = mapped-last (q ∷ ps)
 
-  pairs-mapped : (C : ℕ) (w : List ℕ) (n i k : ℕ) → pairsFrom C w f n i k ≡ mapped f (pairsFrom C w (λ (x : ℕ). x) n i k)
+  pairs-mapped : (C : Shape) (w : List ℕ) (n i k : ℕ) → pairsFrom C w f n i k ≡ mapped f (pairsFrom C w (λ (x : ℕ). x) n i k)
   unfolding pairsFrom mapped
   pairs-mapped C w n i zero = refl
   pairs-mapped C w n i (suc k) = ap (λ (l : List (ℕ × K)). (row C w n i, f (child C w n i)) ∷ l) (pairs-mapped C w n (i + 1) k)
 
-  pub sound-at : (C : ℕ) (w : List ℕ) (h n r : ℕ) (b : Limit) → sound C h (nodeWith C w f n) r b ≡ sound C h (nodeAt C w n) r b
+  pub sound-at : (C : Shape) (w : List ℕ) (h n r : ℕ) (b : Limit) → sound C h (nodeWith C w f n) r b ≡ sound C h (nodeAt C w n) r b
   unfolding sound
   sound-at C w h n r b =
       let ps = pairsFrom C w (λ (x : ℕ). x) n 0 (count C w n) in
@@ -134,7 +134,7 @@ unfolding rows
 rows-last z r [] t = absurd t
 rows-last z r (p ∷ ps) t = row-last z (p .0) ps (and-r (eqb (p .0) r) (rises z (p .0) ps) t)
 
-module _ {K : Type 0} (C h : ℕ) (t : Node K) (r : ℕ) (b : Limit) (s : T (sound C h t r b)) where
+module _ {K : Type 0} (C : Shape) (h : ℕ) (t : Node K) (r : ℕ) (b : Limit) (s : T (sound C h t r b)) where
   pub sound-ends : (l : ℕ) × T (endSound h b (t .end) l)
   sound-ends = rows-last (endSound h b (t .end)) r (t .pairs) (soundly C h t r b s .rise)
 
@@ -174,7 +174,7 @@ module _ {K : Type 0} (Q : K → ℕ → Limit → Type 0) (below : (x : K) (r :
   pub pairs-below : (r : ℕ) (b : Limit) (ps : List (ℕ × K)) → Begins r ps → allPairs Q ps b → Under r b
   pairs-below r b _ (begins x ps) g = chain (r, x) ps b g
 
-pub sound-below : (C P h : ℕ) (t : Level h) (r : ℕ) (b : Limit) → AllSound C P h t r b → Under r b
+pub sound-below : (C : Shape) (P h : ℕ) (t : Level h) (r : ℕ) (b : Limit) → AllSound C P h t r b → Under r b
 unfolding AllSound
 sound-below C P zero x r b g = g
 sound-below C P (suc h) t r b g =

@@ -1,80 +1,114 @@
 -- Get and put: the same place, another place, another node, a header word, the length. Nothing above needs more.
 use Prim.Native.Nat.{ℕ, zero, suc, _+_, _*_, _-_, _<_, _≤_}
 use mathlib.Core.List.{List}
-use mathlib.Core.Path.{_≡_, sym, _∙_}
+use mathlib.Core.Path.{_≡_, _∙_}
 use mathlib.Core.Logic.{_≢_}
 use native.Mathlib.Omega.{arith}
 use native.Mathlib.Nat.{mul-le-mul-right, mul-le-mul-left}
 use lib.Dec.{eqb, ltb}
 use lib.ListN.{set, length, length-set}
-use lib.Seq.{getD-set-same, getD-set-other}
+use lib.Seq.{getD-set-same, getD-set-other, set-comm}
 use borrow.Author.Tests.{eqb-true, eqb-false, ltb-true, ltb-false}
-use Rattle.model.specs.Words.{word, base, part, put, nodeSize, storeLength, Header}
+use Rattle.model.specs.Words.{Arrangement, Pairs, Shape, shape, word, stands, index, part, put, nodeSize, storeLength, Header}
 use Rattle.model.proofs.Tests.{by-test}
 
 -- Places ------------------------------------------------------------------------------------------------
 
-pub place : (C P n j : ℕ) → n < P → j < nodeSize C → base C n + j < storeLength C P
-unfolding base
-place C P n j h l = omega (arith, mul-le-mul-right (4 + 2 * C) h)
-
 -- a product that fits: nodes before n, and their words
 pub scaled : (C n : ℕ) → C ≤ 4094 → n ≤ 65535 → n * nodeSize C ≤ 536862720
 scaled C n h l = omega (arith, mul-le-mul-right (4 + 2 * C) l, mul-le-mul-left 65535 h)
-
-pub base-high : (C n : ℕ) → 8 ≤ base C n
-unfolding base
-base-high C n = omega arith
 
 -- a store's length fits a usize, with room to spare
 pub small : (C P : ℕ) (w : List ℕ) → Header C P w → length w ≤ 536862728
 small C P w h =
     omega (arith, h .long, mul-le-mul-right (4 + 2 * C) (h .pool-high), mul-le-mul-left 65535 (h .cap-high))
 
--- two nodes share no word
-pub apart : (C n m j k : ℕ) → n < m → j < nodeSize C → base C n + j < base C m + k
-unfolding base
-apart C n m j k h a = omega (arith, mul-le-mul-right (4 + 2 * C) h)
+-- What the laws below need of an arrangement: no two words at one place, and none outside the nodes.
+pub stands-apart : (L : Arrangement) (C a b : ℕ) → stands L C a ≡ stands L C b → a ≡ b
+unfolding stands
+stands-apart Pairs C a b e = e
 
-pub same-node : (C n m j k : ℕ) → j < nodeSize C → k < nodeSize C → base C n + j ≡ base C m + k → n ≡ m
+pub stands-lt : (L : Arrangement) (C P k : ℕ) → k < P * nodeSize C → stands L C k < P * nodeSize C
+unfolding stands
+stands-lt Pairs C P k l = l
+
+-- in pairs word j of node n stands j words after its first
+pub in-pairs : (C n j : ℕ) → index (shape Pairs C) n j ≡ 8 + n * nodeSize C + j
+unfolding index stands
+in-pairs C n j = omega arith
+
+pub index-high : (C : Shape) (n j : ℕ) → 8 ≤ index C n j
+unfolding index
+index-high C n j = omega arith
+
+pub index-lt : (C : Shape) (P n j : ℕ) → n < P → j < nodeSize (C .cap) → index C n j < storeLength (C .cap) P
+unfolding index
+index-lt C P n j h l =
+    let s = nodeSize (C .cap) in
+    let k : n * s + j < P * s = omega (arith, mul-le-mul-right s h) in
+    omega (arith, stands-lt (C .slots) (C .cap) P (n * s + j) k)
+
+index-apart : (C : Shape) (n j k : ℕ) → index C n j ≡ index C n k → j ≡ k
+unfolding index
+index-apart C n j k e =
+    let s = nodeSize (C .cap) in
+    omega (arith, stands-apart (C .slots) (C .cap) (n * s + j) (n * s + k) (omega arith))
+
+-- two nodes share no word
+later : (s n m j k : ℕ) → n < m → j < s → n * s + j < m * s + k
+later s n m j k h a = omega (arith, mul-le-mul-right s h)
+
+same-node : (C : Shape) (n m j k : ℕ) → j < nodeSize (C .cap) → k < nodeSize (C .cap) → index C n j ≡ index C m k → n ≡ m
+unfolding index
 same-node C n m j k a b e =
+    let s = nodeSize (C .cap) in
+    let f = stands-apart (C .slots) (C .cap) (n * s + j) (m * s + k) (omega arith) in
     by-test (eqb n m) (λ t. eqb-true n m t)
     (λ t. by-test (ltb n m)
-    (λ q. absurd (omega (arith, apart C n m j k (ltb-true n m q) a)))
-    (λ q. let d : m < n = omega (arith, ltb-false n m q, eqb-false n m t) in absurd (omega (arith, apart C m n k j d b))))
+    (λ q. absurd (omega (arith, f, later s n m j k (ltb-true n m q) a)))
+    (λ q. let d : m < n = omega (arith, ltb-false n m q, eqb-false n m t) in absurd (omega (arith, f, later s m n k j d b))))
 
 -- Put ---------------------------------------------------------------------------------------------------
 
-module _ (C P : ℕ) (w : List ℕ) (hd : Header C P w) where
-  pub put-same : (n j x : ℕ) → n < P → j < nodeSize C → part C (put C w n j x) n j ≡ x
+module _ (C : Shape) (P : ℕ) (w : List ℕ) (hd : Header (C .cap) P w) where
+  pub put-same : (n j x : ℕ) → n < P → j < nodeSize (C .cap) → part C (put C w n j x) n j ≡ x
   unfolding put part
-  put-same n j x h l = getD-set-same w (base C n + j) x 0 (omega (arith, place C P n j h l, hd .long))
+  put-same n j x h l = getD-set-same w (index C n j) x 0 (omega (arith, index-lt C P n j h l, hd .long))
 
-pub put-other : (C : ℕ) (w : List ℕ) (n j k x : ℕ) → k ≢ j → part C (put C w n j x) n k ≡ part C w n k
+pub put-other : (C : Shape) (w : List ℕ) (n j k x : ℕ) → k ≢ j → part C (put C w n j x) n k ≡ part C w n k
 unfolding put part
-put-other C w n j k x h = getD-set-other w (base C n + j) (base C n + k) x 0 (λ e. h (omega arith))
+put-other C w n j k x h = getD-set-other w (index C n j) (index C n k) x 0 (λ e. h (index-apart C n k j e))
 
-pub put-node : (C : ℕ) (w : List ℕ) (n m j k x : ℕ) → m ≢ n → j < nodeSize C → k < nodeSize C → part C (put C w n j x) m k ≡ part C w m k
+pub put-node : (C : Shape) (w : List ℕ) (n m j k x : ℕ) → m ≢ n → j < nodeSize (C .cap) → k < nodeSize (C .cap) → part C (put C w n j x) m k ≡ part C w m k
 unfolding put part
-put-node C w n m j k x h l b = getD-set-other w (base C n + j) (base C m + k) x 0 (λ e. h (same-node C m n k j b l e))
+put-node C w n m j k x h l b = getD-set-other w (index C n j) (index C m k) x 0 (λ e. h (same-node C m n k j b l e))
 
-pub put-word : (C : ℕ) (w : List ℕ) (n j x i : ℕ) → i < 8 → word (put C w n j x) i ≡ word w i
+pub put-word : (C : Shape) (w : List ℕ) (n j x i : ℕ) → i < 8 → word (put C w n j x) i ≡ word w i
 unfolding put
-put-word C w n j x i h = getD-set-other w (base C n + j) i x 0 (λ e. omega (arith, base-high C n))
+put-word C w n j x i h = getD-set-other w (index C n j) i x 0 (λ e. omega (arith, index-high C n j))
 
-pub put-length : (C : ℕ) (w : List ℕ) (n j x : ℕ) → length (put C w n j x) ≡ length w
+pub put-length : (C : Shape) (w : List ℕ) (n j x : ℕ) → length (put C w n j x) ≡ length w
 unfolding put
-put-length C w n j x = length-set w (base C n + j) x
+put-length C w n j x = length-set w (index C n j) x
+
+-- writes to two nodes may change places
+pub put-comm : (C : Shape) (w : List ℕ) (n m j k x y : ℕ) → m ≢ n → j < nodeSize (C .cap) → k < nodeSize (C .cap) → put C (put C w m k y) n j x ≡ put C (put C w n j x) m k y
+unfolding put
+put-comm C w n m j k x y h l b = set-comm w (index C m k) (index C n j) y x (λ e. h (same-node C m n k j b l e))
 
 -- a header word is no node's
-pub set-part : (C : ℕ) (w : List ℕ) (i x n j : ℕ) → i < 8 → part C (set w i x) n j ≡ part C w n j
+pub set-put : (C : Shape) (w : List ℕ) (n j x i y : ℕ) → i < 8 → set (put C w n j x) i y ≡ put C (set w i y) n j x
+unfolding put
+set-put C w n j x i y h = set-comm w (index C n j) i x y (λ e. omega (arith, index-high C n j))
+
+pub set-part : (C : Shape) (w : List ℕ) (i x n j : ℕ) → i < 8 → part C (set w i x) n j ≡ part C w n j
 unfolding part
-set-part C w i x n j h = getD-set-other w i (base C n + j) x 0 (λ e. omega (arith, base-high C n))
+set-part C w i x n j h = getD-set-other w i (index C n j) x 0 (λ e. omega (arith, index-high C n j))
 
 -- what is known of a length stays known
 pub header-at : (C P : ℕ) (w v : List ℕ) → Header C P w → length v ≡ length w → Header C P v
 header-at C P w v hd e =
     record { cap-low = hd .cap-low; cap-high = hd .cap-high; pool-low = hd .pool-low; pool-high = hd .pool-high; long = e ∙ hd .long }
 
-pub put-header : (C P : ℕ) (w : List ℕ) → Header C P w → (n j x : ℕ) → Header C P (put C w n j x)
-put-header C P w hd n j x = header-at C P w (put C w n j x) hd (put-length C w n j x)
+pub put-header : (C : Shape) (P : ℕ) (w : List ℕ) → Header (C .cap) P w → (n j x : ℕ) → Header (C .cap) P (put C w n j x)
+put-header C P w hd n j x = header-at (C .cap) P w (put C w n j x) hd (put-length C w n j x)

@@ -9,7 +9,7 @@ use lib.ListN.{set, length, length-set}
 use lib.Seq.{getD-set-same, getD-set-other}
 use lib.Dec.{eqb}
 use borrow.Author.Tests.{eqb-true, eqb-false, eq-eqb}
-use Rattle.model.specs.Words.{word, freeHead, freeCount, part, put, height, count, start, end, row, child, rowPlace, childPlace, nodeSize, freeMark, Header, emptied, added, copyFrom, copied, freed, freeAll}
+use Rattle.model.specs.Words.{Shape, word, freeHead, freeCount, part, put, height, count, start, end, row, child, rowPlace, childPlace, nodeSize, freeMark, Header, emptied, added, copyFrom, copied, freed, freeAll}
 use Rattle.model.specs.Tree.{pairsFrom}
 use Rattle.model.specs.Reading.{occ}
 use Rattle.model.specs.WellFormed.{Chain}
@@ -37,7 +37,7 @@ occ-in m n ns p = omega (arith, occ-cons m n ns)
 -- Pairs -------------------------------------------------------------------------------------------------
 
 -- one pair more, at the end
-pub pairs-snoc : {K : Type 0} (C : ℕ) (w : List ℕ) (f : ℕ → K) (n i k : ℕ) → pairsFrom C w f n i (suc k) ≡ pairsFrom C w f n i k ++ ((row C w n (i + k), f (child C w n (i + k))) ∷ [])
+pub pairs-snoc : {K : Type 0} (C : Shape) (w : List ℕ) (f : ℕ → K) (n i k : ℕ) → pairsFrom C w f n i (suc k) ≡ pairsFrom C w f n i k ++ ((row C w n (i + k), f (child C w n (i + k))) ∷ [])
 unfolding pairsFrom
 pairs-snoc C w f n i zero = rw add-zero
 pairs-snoc C w f n i (suc k) =
@@ -45,7 +45,7 @@ pairs-snoc C w f n i (suc k) =
     ap (λ (l : List (ℕ × _)). (row C w n i, f (child C w n i)) ∷ l) (pairs-snoc C w f n (i + 1) k ∙ rw e)
 
 -- the pairs of node a in w are those of node b in v
-pub pairs-same : {K : Type 0} (C : ℕ) (w v : List ℕ) (f g : ℕ → K) (a b i k : ℕ)
+pub pairs-same : {K : Type 0} (C : Shape) (w v : List ℕ) (f g : ℕ → K) (a b i k : ℕ)
     → ((j : ℕ) → i ≤ j → j < i + k → (row C w a j ≡ row C v b j) × (child C w a j ≡ child C v b j) × (f (child C w a j) ≡ g (child C w a j)))
     → pairsFrom C w f a i k ≡ pairsFrom C v g b i k
 unfolding pairsFrom
@@ -56,13 +56,13 @@ pairs-same C w v f g a b i (suc k) e =
 
 -- One node written --------------------------------------------------------------------------------------
 
-pub put-keeps : (C : ℕ) (w : List ℕ) (n m j x : ℕ) → m ≢ n → j < nodeSize C → Same C w (put C w n j x) m
+pub put-keeps : (C : Shape) (w : List ℕ) (n m j x : ℕ) → m ≢ n → j < nodeSize (C .cap) → Same C w (put C w n j x) m
 put-keeps C w n m j x d l k b = sym (put-node C w n m j k x d l b)
 
-pub set-keeps : (C : ℕ) (w : List ℕ) (i x m : ℕ) → i < 8 → Same C w (set w i x) m
+pub set-keeps : (C : Shape) (w : List ℕ) (i x m : ℕ) → i < 8 → Same C w (set w i x) m
 set-keeps C w i x m l k b = sym (set-part C w i x m k l)
 
-module _ (C : ℕ) (w : List ℕ) (n s : ℕ) where
+module _ (C : Shape) (w : List ℕ) (n s : ℕ) where
   pub emptied-keeps : (m : ℕ) → m ≢ n → Same C w (emptied C w n s) m
   unfolding emptied
   emptied-keeps m d k b =
@@ -76,7 +76,7 @@ module _ (C : ℕ) (w : List ℕ) (n s : ℕ) where
   unfolding emptied
   emptied-length = put-length C _ n 3 _ ∙ put-length C _ n 2 _ ∙ put-length C _ n 1 _ ∙ put-length C w n 0 _
 
-module _ (C : ℕ) (w : List ℕ) (n r x : ℕ) where
+module _ (C : Shape) (w : List ℕ) (n r x : ℕ) where
   pub added-length : length (added C w n r x) ≡ length w
   unfolding added
   added-length = put-length C _ n 1 _ ∙ put-length C _ n _ _ ∙ put-length C w n _ _
@@ -85,7 +85,7 @@ module _ (C : ℕ) (w : List ℕ) (n r x : ℕ) where
   unfolding added
   added-word i l = put-word C _ n 1 _ i l ∙ put-word C _ n _ _ i l ∙ put-word C w n _ _ i l
 
-  module _ (P : ℕ) (hd : Header C P w) (inside : n < P) (space : count C w n < C) where
+  module _ (P : ℕ) (hd : Header (C .cap) P w) (inside : n < P) (space : count C w n < C .cap) where
     pub added-count : count C (added C w n r x) n ≡ count C w n + 1
     unfolding added
     added-count = put-same C P _ (put-header C P _ (put-header C P w hd n _ r) n _ x) n 1 _ inside (omega arith)
@@ -99,7 +99,7 @@ module _ (C : ℕ) (w : List ℕ) (n r x : ℕ) where
     added-child = put-other C _ n 1 _ _ (omega arith) ∙ put-same C P _ (put-header C P w hd n _ r) n _ x inside (omega arith)
 
     -- every other word of n: not its count, and no place of the new pair
-    pub added-part : (k : ℕ) → k ≢ 1 → k ≢ rowPlace C (count C w n) → k ≢ childPlace C (count C w n) → part C (added C w n r x) n k ≡ part C w n k
+    pub added-part : (k : ℕ) → k ≢ 1 → k ≢ rowPlace (count C w n) → k ≢ childPlace (count C w n) → part C (added C w n r x) n k ≡ part C w n k
     unfolding added
     added-part k a b c = put-other C _ n 1 k _ a ∙ put-other C _ n _ k x c ∙ put-other C w n _ k r b
 
@@ -109,7 +109,7 @@ module _ (C : ℕ) (w : List ℕ) (n r x : ℕ) where
 
 -- A node copied -----------------------------------------------------------------------------------------
 
-module _ (C a c : ℕ) where
+module _ (C : Shape) (a c : ℕ) where
   copy-length : (w : List ℕ) (i k : ℕ) → length (copyFrom C w a c i k) ≡ length w
   unfolding copyFrom
   copy-length w i zero = refl
@@ -120,7 +120,7 @@ module _ (C a c : ℕ) where
   copy-word w i zero j l = refl
   copy-word w i (suc k) j l = copy-word (put C w c i (part C w a i)) (i + 1) k j l ∙ put-word C w c i _ j l
 
-  copy-keeps : (w : List ℕ) (i k m : ℕ) → i + k ≤ nodeSize C → m ≢ c → Same C w (copyFrom C w a c i k) m
+  copy-keeps : (w : List ℕ) (i k m : ℕ) → i + k ≤ nodeSize (C .cap) → m ≢ c → Same C w (copyFrom C w a c i k) m
   unfolding copyFrom
   copy-keeps w i zero m l d j b = refl
   copy-keeps w i (suc k) m l d j b = put-keeps C w c m i _ d (omega arith) j b ∙ copy-keeps (put C w c i (part C w a i)) (i + 1) k m (omega arith) d j b
@@ -132,7 +132,7 @@ module _ (C a c : ℕ) where
   copy-before w i (suc k) j b = copy-before (put C w c i (part C w a i)) (i + 1) k j (omega arith) ∙ put-other C w c i j _ (omega arith)
 
   module _ (P : ℕ) (apart : a ≢ c) (inside : c < P) where
-    copy-part : (w : List ℕ) → Header C P w → (i k j : ℕ) → i + k ≤ nodeSize C → i ≤ j → j < i + k → part C (copyFrom C w a c i k) c j ≡ part C w a j
+    copy-part : (w : List ℕ) → Header (C .cap) P w → (i k j : ℕ) → i + k ≤ nodeSize (C .cap) → i ≤ j → j < i + k → part C (copyFrom C w a c i k) c j ≡ part C w a j
     unfolding copyFrom
     copy-part w hd i zero j l f g = absurd (omega arith)
     copy-part w hd i (suc k) j l f g =
@@ -145,23 +145,23 @@ module _ (C a c : ℕ) where
   module _ (w : List ℕ) where
     pub copied-length : length (copied C w a c) ≡ length w
     unfolding copied
-    copied-length = copy-length w 0 (nodeSize C)
+    copied-length = copy-length w 0 (nodeSize (C .cap))
 
     pub copied-word : (j : ℕ) → j < 8 → word (copied C w a c) j ≡ word w j
     unfolding copied
-    copied-word j l = copy-word w 0 (nodeSize C) j l
+    copied-word j l = copy-word w 0 (nodeSize (C .cap)) j l
 
     pub copied-keeps : (m : ℕ) → m ≢ c → Same C w (copied C w a c) m
     unfolding copied
-    copied-keeps m d = copy-keeps w 0 (nodeSize C) m (omega arith) d
+    copied-keeps m d = copy-keeps w 0 (nodeSize (C .cap)) m (omega arith) d
 
-    pub copied-part : (P : ℕ) → Header C P w → a ≢ c → c < P → (j : ℕ) → j < nodeSize C → part C (copied C w a c) c j ≡ part C w a j
+    pub copied-part : (P : ℕ) → Header (C .cap) P w → a ≢ c → c < P → (j : ℕ) → j < nodeSize (C .cap) → part C (copied C w a c) c j ≡ part C w a j
     unfolding copied
-    copied-part P hd apart inside j l = copy-part P apart inside w hd 0 (nodeSize C) j (omega arith) (omega arith) (omega arith)
+    copied-part P hd apart inside j l = copy-part P apart inside w hd 0 (nodeSize (C .cap)) j (omega arith) (omega arith) (omega arith)
 
 -- Nodes freed -------------------------------------------------------------------------------------------
 
-module _ (C : ℕ) (w : List ℕ) (n : ℕ) where
+module _ (C : Shape) (w : List ℕ) (n : ℕ) where
   -- the words after the node's own two, and after the head
   abbrev marked : List ℕ
   marked = put C (put C w n 0 freeMark) n 1 (freeHead w)
@@ -188,7 +188,7 @@ module _ (C : ℕ) (w : List ℕ) (n : ℕ) where
   unfolding freed
   freed-part j l = set-part C headed 4 (freeCount w + 1) n j (omega arith) ∙ set-part C marked 3 n n j (omega arith) ∙ put-other C _ n 1 j _ (omega arith) ∙ put-other C w n 0 j _ (omega arith)
 
-  module _ (P : ℕ) (hd : Header C P w) where
+  module _ (P : ℕ) (hd : Header (C .cap) P w) where
     long : 8 ≤ length w
     long = omega (arith, hd .long)
 
@@ -212,7 +212,7 @@ module _ (C : ℕ) (w : List ℕ) (n : ℕ) where
       unfolding freed
       freed-next = set-part C headed 4 (freeCount w + 1) n 1 (omega arith) ∙ set-part C marked 3 n n 1 (omega arith) ∙ put-same C P _ (put-header C P w hd n 0 _) n 1 _ inside (omega arith)
 
-module _ (C : ℕ) where
+module _ (C : Shape) where
   pub free-all-length : (w : List ℕ) (ns : List ℕ) → length (freeAll C w ns) ≡ length w
   unfolding freeAll
   free-all-length w [] = refl
@@ -228,14 +228,14 @@ module _ (C : ℕ) where
   free-all-word w [] i l a b = refl
   free-all-word w (n ∷ ns) i l a b = free-all-word (freed C w n) ns i l a b ∙ freed-word C w n i l a b
 
-  pub free-all-count : (P : ℕ) (w : List ℕ) (ns : List ℕ) → Header C P w → freeCount (freeAll C w ns) ≡ freeCount w + length ns
+  pub free-all-count : (P : ℕ) (w : List ℕ) (ns : List ℕ) → Header (C .cap) P w → freeCount (freeAll C w ns) ≡ freeCount w + length ns
   unfolding freeAll
   free-all-count P w [] hd = sym (add-zero (freeCount w))
   free-all-count P w (n ∷ ns) hd =
-      omega (arith, free-all-count P (freed C w n) ns (header-at C P w (freed C w n) hd (freed-length C w n)), freed-count C w n P hd)
+      omega (arith, free-all-count P (freed C w n) ns (header-at (C .cap) P w (freed C w n) hd (freed-length C w n)), freed-count C w n P hd)
 
 -- the chain depends on its nodes alone
-pub chain-same : (C P : ℕ) (w v : List ℕ) (ns : List ℕ) (n : ℕ) → ((m : ℕ) → 0 < occ m ns → Same C w v m) → Chain C P w n ns → Chain C P v n ns
+pub chain-same : (C : Shape) (P : ℕ) (w v : List ℕ) (ns : List ℕ) (n : ℕ) → ((m : ℕ) → 0 < occ m ns → Same C w v m) → Chain C P w n ns → Chain C P v n ns
 unfolding Chain
 chain-same C P w v [] n s c = c
 chain-same C P w v (m ∷ ms) n s c =
@@ -243,7 +243,7 @@ chain-same C P w v (m ∷ ms) n s c =
     (c .0, c .1, sym (q 0 (omega arith)) ∙ c .2, subst (λ (k : ℕ). Chain C P v k ms) (q 1 (omega arith)) (chain-same C P w v ms (count C w m) (λ k p. s k (occ-in k m ms p)) (c .3)))
 
 -- freed nodes stand before the chain, the last one first
-pub chain-freed : (C P : ℕ) (w : List ℕ) → Header C P w → (n : ℕ) → n < P → (ns : List ℕ) → occ n ns ≡ 0 → Chain C P w (freeHead w) ns → Chain C P (freed C w n) (freeHead (freed C w n)) (n ∷ ns)
+pub chain-freed : (C : Shape) (P : ℕ) (w : List ℕ) → Header (C .cap) P w → (n : ℕ) → n < P → (ns : List ℕ) → occ n ns ≡ 0 → Chain C P w (freeHead w) ns → Chain C P (freed C w n) (freeHead (freed C w n)) (n ∷ ns)
 unfolding Chain
 chain-freed C P w hd n inside ns z c = (
   freed-head C w n P hd,

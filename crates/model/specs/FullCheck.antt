@@ -5,12 +5,12 @@ use mathlib.Core.List.{List, [], _∷_}
 use mathlib.Core.Bool.{Bool, true, false, _&&_}
 use lib.ListN.{length}
 use lib.Dec.{leb, ltb, eqb}
-use Rattle.model.specs.Words.{pick, capacity, pool, root, freeHead, freeCount, part, height, count, freeMark}
+use Rattle.model.specs.Words.{storeShape, Arrangement, Shape, pick, pool, root, freeHead, freeCount, part, height, count, freeMark}
 use Rattle.model.specs.Reading.{unlessBad, firstBad, rootVisits, rootEntries, rootNodes}
 use Rattle.model.specs.Refusals.{Answer, result, refused, damaged, whenOpen}
 
 -- "the chain has free-count nodes and ends with P": k free nodes from n on, then P
-unfoldable pub chainEnds : ℕ → ℕ → List ℕ → ℕ → ℕ → Bool
+unfoldable pub chainEnds : Shape → ℕ → List ℕ → ℕ → ℕ → Bool
 chainEnds C P w n zero = eqb n P
 chainEnds C P w n (suc k) =
     let more = chainEnds C P w (count C w n) k in
@@ -18,9 +18,9 @@ chainEnds C P w n (suc k) =
 
 -- No node stands twice in a sound tree or in a chain that ends, and none in both. So each node stands once just where
 -- tree nodes and free nodes add up to P.
-unfoldable pub fullCheck : List ℕ → Answer
-fullCheck w =
-    let C = capacity w in
+unfoldable pub fullCheck : Arrangement → List ℕ → Answer
+fullCheck L w =
+    let C = storeShape L w in
     let P = pool w in
     let n = root w in
     let tree = length (rootNodes C w n) in

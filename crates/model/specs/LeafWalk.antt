@@ -4,7 +4,7 @@ use mathlib.Core.List.{List, [], _∷_}
 use mathlib.Core.Bool.{Bool, true, false}
 use lib.ListN.{length}
 use lib.Dec.{leb, ltb, eqb}
-use Rattle.model.specs.Words.{pick, fill, capacity, pool, root, part, height, count, start, end, row, child}
+use Rattle.model.specs.Words.{storeShape, Arrangement, Shape, pick, fill, pool, root, part, height, count, start, end, row, child}
 use Rattle.model.specs.Tree.{Limit, Open, Below}
 use Rattle.model.specs.Reading.{Reached, unsound, leaf, rootLeaf, lastNotAbove, toRow}
 use Rattle.model.specs.Refusals.{Answer, result, refused, whenOpen}
@@ -27,7 +27,7 @@ abbrev pub pageEntry : ℕ → ℕ → PageEntry
 pageEntry r x = record { «row_id» = record { 0 = r }; «page_id» = record { 0 = x } }
 
 -- the records of entries i, … of leaf n, k of them
-unfoldable pub records : ℕ → List ℕ → ℕ → ℕ → ℕ → List PageEntry
+unfoldable pub records : Shape → List ℕ → ℕ → ℕ → ℕ → List PageEntry
 records C w n i zero = []
 records C w n i (suc k) = pageEntry (row C w n i) (child C w n i) ∷ records C w n (i + 1) k
 
@@ -37,6 +37,12 @@ pub record Stepped : Type 0 where
   pub cursor : RowPageIndexMemCursor
   pub list : List PageEntry
 
+-- a step gave a leaf; else it gave none, or was refused
+unfoldable pub givesLeaf : Answer → Bool
+givesLeaf (result []) = false
+givesLeaf (result (x ∷ l)) = true
+givesLeaf (refused n d) = false
+
 -- "after the last leaf it is done": no entry is next on its path
 unfoldable pub isLast : Limit → Bool
 isLast Open = true
@@ -44,7 +50,7 @@ isLast (Below r) = false
 
 -- "Next gives start, end and count of the leaf reached for it, then keeps that leaf's end"; "the leaf's entries go into
 -- a lent list of row-and-page records; further records stay"
-unfoldable pub given : ℕ → List ℕ → RowPageIndexMemCursor → List PageEntry → Reached → Stepped
+unfoldable pub given : Shape → List ℕ → RowPageIndexMemCursor → List PageEntry → Reached → Stepped
 given C w c l (unsound n) = record { answer = refused 2 n; cursor = c; list = l }
 given C w c l (leaf n b) =
     record {
@@ -54,10 +60,10 @@ given C w c l (leaf n b) =
     }
 
 -- "Next: 13, none if done, path 2." "(next: C)"
-unfoldable pub nextLeafOf : List ℕ → RowPageIndexMemCursor → List PageEntry → Stepped
-nextLeafOf w c l =
-    let C = capacity w in
+unfoldable pub nextLeafOf : Arrangement → List ℕ → RowPageIndexMemCursor → List PageEntry → Stepped
+nextLeafOf L w c l =
+    let C = storeShape L w in
     let answer : Answer → Stepped = λ a. record { answer = a; cursor = c; list = l } in
     let reached = given C w c l (rootLeaf (toRow C w (c .«row_id» .0)) C (pool w) w (root w)) in
     let none = pick (c .done) (answer (result [])) reached in
-    whenOpen w answer (pick (ltb (length l) C) (answer (refused 13 C)) none)
+    whenOpen w answer (pick (ltb (length l) (C .cap)) (answer (refused 13 (C .cap))) none)

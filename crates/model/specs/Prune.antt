@@ -4,7 +4,7 @@ use mathlib.Core.List.{List, [], _∷_, _++_, reverse}
 use mathlib.Core.Bool.{Bool, true, false, _&&_, _||_}
 use lib.ListN.{length}
 use lib.Dec.{leb, ltb, eqb}
-use Rattle.model.specs.Words.{pick, capacity, pool, root, freeCount, part, put, emptied, copied, freeAll, rowPlace, childPlace, height, count, start, end, row, child}
+use Rattle.model.specs.Words.{storeShape, Arrangement, Shape, pick, pool, root, freeCount, part, put, emptied, copied, freeAll, rowPlace, childPlace, height, count, start, end, row, child}
 use Rattle.model.specs.Tree.{Node, Level, level, Limit, Open, Below, sound, emptyRoot, rootSound}
 use Rattle.model.specs.Reading.{Visit, Enter, Leave, Bad, visits}
 use Rattle.model.specs.Cut.{Rest, gone, stays, ifGone, cutPairs, trim, cut, wentPairs, went, trims, kept}
@@ -13,30 +13,30 @@ use Rattle.model.specs.Refusals.{Answer, result, refused, damaged, Outco
 -- The writes ---------------------------------------------------------------------------------------------
 
 -- "moves its remaining entries to the front": entries k + i, … of node n, m of them, become entries i, …
-unfoldable pub moved : ℕ → List ℕ → ℕ → ℕ → ℕ → ℕ → List ℕ
+unfoldable pub moved : Shape → List ℕ → ℕ → ℕ → ℕ → ℕ → List ℕ
 moved C w n k i zero = w
 moved C w n k i (suc m) =
-    let v = put C (put C w n (rowPlace C i) (row C w n (k + i))) n (childPlace C i) (child C w n (k + i)) in
+    let v = put C (put C w n (rowPlace i) (row C w n (k + i))) n (childPlace i) (child C w n (k + i)) in
     moved C v n k (i + 1) m
 
 -- node n loses its first k entries "and takes the end as its start and first row"
-unfoldable pub trimmed : ℕ → List ℕ → ℕ → ℕ → ℕ → List ℕ
+unfoldable pub trimmed : Shape → List ℕ → ℕ → ℕ → ℕ → List ℕ
 trimmed C w n k e =
     let left = count C w n - k in
-    put C (put C (put C (moved C w n k 0 left) n 1 left) n 2 e) n (rowPlace C 0) e
+    put C (put C (put C (moved C w n k 0 left) n 1 left) n 2 e) n (rowPlace 0) e
 
-unfoldable pub trimAll : ℕ → List ℕ → ℕ → List (ℕ × ℕ) → List ℕ
+unfoldable pub trimAll : Shape → List ℕ → ℕ → List (ℕ × ℕ) → List ℕ
 trimAll C w e [] = w
 trimAll C w e (t ∷ ts) = trimAll C (trimmed C w (t .0) (t .1) e) e ts
 
 -- "its child is copied into it", one after the other, into root n
-unfoldable pub copyAll : ℕ → List ℕ → ℕ → List ℕ → List ℕ
+unfoldable pub copyAll : Shape → List ℕ → ℕ → List ℕ → List ℕ
 copyAll C w n [] = w
 copyAll C w n (m ∷ ms) = copyAll C (copied C w m n) n ms
 
 -- "First" trimmed, then copied; or, "If nothing is left, the root is an empty leaf starting at the end". "Last, the
 -- nodes other than the root whose rows all went, and those copied into the root, are freed": the latter deepest first
-unfoldable pub pruneTree : ℕ → List ℕ → ℕ → (h : ℕ) → ℕ → Level (suc h) → List ℕ → List ℕ
+unfoldable pub pruneTree : Shape → List ℕ → ℕ → (h : ℕ) → ℕ → Level (suc h) → List ℕ → List ℕ
 pruneTree C w n h e t copies =
     let all = wentPairs (cut h e) (went h e) (t .pairs) in
     let empty = freeAll C (emptied C w n e) all in
@@ -57,11 +57,11 @@ against e x c (on [] p c₀) = on [] p c₀
 against e x c (on (y ∷ ids) p c₀) = pick (eqb x y) (pick (leb c e) (on ids (p + 1) c) (stopped 10 p)) (stopped 9 p)
 
 -- the end of entry i of leaf n
-unfoldable pub entryEnd : ℕ → List ℕ → ℕ → ℕ → ℕ
+unfoldable pub entryEnd : Shape → List ℕ → ℕ → ℕ → ℕ
 entryEnd C w n i = pick (ltb (i + 1) (count C w n)) (row C w n (i + 1)) (end C w n)
 
 -- entries i, … of leaf n, k of them
-unfoldable pub scanLeaf : ℕ → List ℕ → ℕ → ℕ → ℕ → ℕ → Scan → Scan
+unfoldable pub scanLeaf : Shape → List ℕ → ℕ → ℕ → ℕ → ℕ → Scan → Scan
 scanLeaf C w e n i zero s = s
 scanLeaf C w e n i (suc k) s = scanLeaf C w e n (i + 1) k (against e (child C w n i) (entryEnd C w n i) s)
 
@@ -71,7 +71,7 @@ spoilt n (stopped a d) = stopped a d
 spoilt n (on [] p c) = on [] p c
 spoilt n (on (y ∷ ids) p c) = stopped 2 n
 
-unfoldable pub scan : ℕ → List ℕ → ℕ → List Visit → Scan → Scan
+unfoldable pub scan : Shape → List ℕ → ℕ → List Visit → Scan → Scan
 scan C w e [] s = s
 scan C w e (Enter n ∷ vs) s = scan C w e vs (pick (eqb (height C w n) 0) (scanLeaf C w e n 0 (count C w n) s) s)
 scan C w e (Leave n ∷ vs) s = scan C w e vs s
@@ -101,7 +101,7 @@ atLast f a (p ∷ []) = f (p .1) (p .0)
 atLast f a (p ∷ q ∷ ps) = atLast f a (q ∷ ps)
 
 -- "While the root is a branch of one entry, its child is copied into it": one entry stays, and it is the last
-unfoldable pub copiesFrom : ℕ → ℕ → (h : ℕ) → ℕ → Level (suc h) → ℕ → Copies
+unfoldable pub copiesFrom : Shape → ℕ → (h : ℕ) → ℕ → Level (suc h) → ℕ → Copies
 copiesFrom C P zero e t r = copies []
 copiesFrom C P (suc h) e t r =
     let child : Level (suc h) → ℕ → Copies = λ x s.
@@ -110,7 +110,7 @@ copiesFrom C P (suc h) e t r =
     pick (eqb (kept (suc h) e t r) 1) (atLast child (copies []) (t .pairs)) (copies [])
 
 -- "a reset to empty collapses none"
-unfoldable pub rootCopies : ℕ → ℕ → (h : ℕ) → ℕ → Level (suc h) → Copies
+unfoldable pub rootCopies : Shape → ℕ → (h : ℕ) → ℕ → Level (suc h) → Copies
 rootCopies C P h e t =
     let some = copiesFrom C P h e t (t .start) in
     ifGone (trim e t (cutPairs e (cut h e) (t .pairs))) (copies []) some
@@ -118,26 +118,26 @@ rootCopies C P h e t =
 -- The call -----------------------------------------------------------------------------------------------
 
 -- k entries go: "2 where the free count and the nodes to be freed pass P together"
-unfoldable pub pruneWith : ℕ → ℕ → List ℕ → ℕ → (h : ℕ) → ℕ → Level (suc h) → ℕ → Copies → Outcome
+unfoldable pub pruneWith : Shape → ℕ → List ℕ → ℕ → (h : ℕ) → ℕ → Level (suc h) → ℕ → Copies → Outcome
 pruneWith C P w n h e t k (unsound m) = record { answer = refused 2 m; words = w }
 pruneWith C P w n h e t k (copies ns) =
     let f = length (wentPairs (cut h e) (went h e) (t .pairs)) + length ns in
     let done : Outcome = record { answer = result (k ∷ f ∷ length ns ∷ []); words = pruneTree C w n h e t ns } in
     pick (leb (freeCount w + f) P) done (record { answer = damaged; words = w })
 
-unfoldable pub pruneScanned : ℕ → ℕ → List ℕ → ℕ → (h : ℕ) → ℕ → Level (suc h) → Scan → Outcome
+unfoldable pub pruneScanned : Shape → ℕ → List ℕ → ℕ → (h : ℕ) → ℕ → Level (suc h) → Scan → Outcome
 pruneScanned C P w n h e t (stopped a d) = record { answer = refused a d; words = w }
 pruneScanned C P w n h e t (on ids k c) = pruneWith C P w n h e t k (rootCopies C P h e t)
 
 -- on a root that holds entries
-unfoldable pub pruneRoot : ℕ → ℕ → List ℕ → ℕ → (h : ℕ) → ℕ → List ℕ → Level (suc h) → Outcome
+unfoldable pub pruneRoot : Shape → ℕ → List ℕ → ℕ → (h : ℕ) → ℕ → List ℕ → Level (suc h) → Outcome
 pruneRoot C P w n h e ids t =
     pruneScanned C P w n h e t (ranOut e (scan C w e (visits false C P (suc h) n t (t .start) Open) (on ids 0 0)))
 
 -- "Prune: 7, root 2, 8, then leaf by leaf"
-unfoldable pub pruneCheckpointPrefix : List ℕ → ℕ → ℕ → List ℕ → Outcome
-pruneCheckpointPrefix w s e ids =
-    let C = capacity w in
+unfoldable pub pruneCheckpointPrefix : Arrangement → List ℕ → ℕ → ℕ → List ℕ → Outcome
+pruneCheckpointPrefix L w s e ids =
+    let C = storeShape L w in
     let P = pool w in
     let n = root w in
     let h = height C w n in

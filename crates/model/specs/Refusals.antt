@@ -4,7 +4,7 @@ use mathlib.Core.List.{List, [], _∷_}
 use mathlib.Core.Bool.{Bool, true, false, _&&_}
 use lib.ListN.{length}
 use lib.Dec.{leb, ltb, eqb}
-use Rattle.model.specs.Words.{pick, word, capacity, pool, root, freeHead, freeCount, capacityOk, poolOk, nodeSize, storeLength}
+use Rattle.model.specs.Words.{pick, word, capacity, pool, root, freeHead, freeCount, sized}
 use Rattle.model.specs.declared.id.RowID.{RowID}
 use Rattle.model.specs.declared.id.PageID.{PageID}
 use Rattle.model.specs.declared.id.NodeNo.{NodeNo}
@@ -45,8 +45,7 @@ damaged = refused 2 65535
 -- "2 for the header (words 0 to 4: C, P, length, others at most P)"
 unfoldable pub headerOk : List ℕ → Bool
 headerOk w =
-    capacityOk (capacity w) && poolOk (pool w) && eqb (length w) (storeLength (capacity w) (pool w))
-    && leb (root w) (pool w) && leb (freeHead w) (pool w) && leb (freeCount w) (pool w)
+    sized (capacity w) (pool w) (length w) && leb (root w) (pool w) && leb (freeHead w) (pool w) && leb (freeCount w) (pool w)
 
 -- "The rest begin with 2 for the header, then 3."
 abbrev pub whenOpen : {A : Type 0} → List ℕ → (Answer → A) → A → A

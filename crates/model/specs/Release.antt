@@ -4,7 +4,7 @@ use mathlib.Core.List.{List, [], _∷_, _++_}
 use mathlib.Core.Bool.{Bool, true, false, _&&_}
 use lib.ListN.{length, set}
 use lib.Dec.{leb, ltb, eqb}
-use Rattle.model.specs.Words.{pick, fill, freeAll, capacity, pool, root, freeCount}
+use Rattle.model.specs.Words.{storeShape, Arrangement, Shape, pick, fill, freeAll, pool, root, freeCount}
 use Rattle.model.specs.Tree.{emptyRoot, rootSound}
 use Rattle.model.specs.Reading.{Fault, clear, at, unlessBad, firstBad, rootVisits, Entry, pageIds, rootEntries, rootNodes}
 use Rattle.model.specs.Refusals.{Answer, result, refused, damaged, Outcome, whenOpen}
@@ -21,14 +21,14 @@ firstLow v [] = clear
 firstLow v (e ∷ es) = pick (ltb (e .low) v) (at (e .low)) (firstLow v es)
 
 -- "nodes are freed children first, left to right; the root word becomes P"
-unfoldable pub releasedWords : ℕ → ℕ → List ℕ → List ℕ → List ℕ
+unfoldable pub releasedWords : Shape → ℕ → List ℕ → List ℕ → List ℕ
 releasedWords C P w ns = set (freeAll C w ns) 2 P
 
 -- "Release: 2 over the tree, 12, 13"; "end with 2 where the free count and the nodes to be freed pass P together".
 -- "Page ids go left to right into a lent list, the rest of which stays"
-unfoldable pub destroy : List ℕ → ℕ → List ℕ → Released
-destroy w v l =
-    let C = capacity w in
+unfoldable pub destroy : Arrangement → List ℕ → ℕ → List ℕ → Released
+destroy L w v l =
+    let C = storeShape L w in
     let P = pool w in
     let n = root w in
     let es = rootEntries C w n in
@@ -42,9 +42,9 @@ destroy w v l =
     whenOpen w refuse two
 
 -- "The empty form accepts only an empty root leaf."; "(empty form: the root only)"; "empty form: not empty (0)"
-unfoldable pub destroyEmpty : List ℕ → Outcome
-destroyEmpty w =
-    let C = capacity w in
+unfoldable pub destroyEmpty : Arrangement → List ℕ → Outcome
+destroyEmpty L w =
+    let C = storeShape L w in
     let P = pool w in
     let n = root w in
     let refuse : Answer → Outcome = λ a. record { answer = a; words = w } in

@@ -1,3 +1,3 @@
-pub mod Passed
 pub mod Opened
 pub mod Rows
+pub mod Parts

@@ -15,7 +15,7 @@ use Rattle.model.specs.declared.answer.Refusal.the-variants.{Closed, Unsound}
 use Rattle.node.specs.Layout.{storeHeader, opened}
 use Rattle.node.specs.declared.header.StoreHeader.{StoreHeader}
 use Rattle.node.specs.declared.header.Opened.the-variants.{Open, Refused}
-use Rattle.node.proofs.Passed.{passed}
+use Rattle.model.proofs.Header.{header-of}
 
 module _ (w : List ℕ) where
   pub opened-damaged : headerOk w ≡ false → opened w ≡ Refused (Unsound (record { 0 = 65535 }))
@@ -32,7 +32,7 @@ module _ (w : List ℕ) where
 
   -- the header's own words are there
   pub eight : headerOk w ≡ true → 8 ≤ length w
-  eight e = let p = passed w e in omega arith
+  eight e = let p = header-of w e in omega arith
 
 -- The same test in the definitions of the calls: what a call does after it, in both cases
 pub record IsOpen (w : List ℕ) (h : StoreHeader) : Type 0 where
@@ -52,13 +52,13 @@ module _ (w : List ℕ) where
       (λ t. by-test (eqb (root w) (pool w))
       (λ u. let q : Refused Closed ≡ Open h = rw (t, u) at e in let z : _≡_ {A = ℕ} 0 1 = cc in absurd (omega arith))
       (λ u. let q : Open (storeHeader w) ≡ Open h = rw (t, u) at e in
-      let p = passed w t in
+      let p = header-of w t in
       record {
         header-is = cc;
-        fits = p .header;
-        inside = omega (arith, p .root-in, eqb-false (root w) (pool w) u);
-        head-in = p .head-in;
-        free-in = p .free-in;
+        fits = p .fits;
+        inside = omega (arith, p .root-low, eqb-false (root w) (pool w) u);
+        head-in = p .head-low;
+        free-in = p .count-low;
         passes = t;
         not-closed = u;
       }))

@@ -8,7 +8,7 @@ use native.Mathlib.Nat.{add-zero}
 use lib.ListN.{length}
 use lib.Dec.{T, leb, ltb, eqb, leb→le, eqb→eq}
 use borrow.Author.Tests.{lt-ltb, le-ltb, le-leb, eq-eqb}
-use Rattle.model.specs.Words.{part, height, count, start, end, row, child, NONE}
+use Rattle.model.specs.Words.{Shape, part, height, count, start, end, row, child, NONE}
 use Rattle.model.specs.Tree.{Limit, nodeAt, pairsFrom, rising, firstRow, lastRow, endSound, sound}
 use Rattle.node.specs.Test.{firstOut}
 use Rattle.model.proofs.Tests.{and-l, and-r, by-test, holds, is-true}
@@ -32,7 +32,7 @@ unfolding rising rises
 rising-is p [] = refl
 rising-is p (q ∷ ps) = ap (λ (t : Bool). ltb (p .0) (q .0) && t) (rising-is q ps)
 
-module _ (C : ℕ) (w : List ℕ) (n : ℕ) where
+module _ (C : Shape) (w : List ℕ) (n : ℕ) where
   -- the rows after the last one read, up to row k
   abbrev pub rest : ℕ → ℕ → ℕ → Bool
   rest last i k = rises yes last (pairsFrom C w (λ (x : ℕ). x) n i (k - i))
@@ -91,14 +91,14 @@ module _ (C : ℕ) (w : List ℕ) (n : ℕ) where
   pub record Facts (h r : ℕ) (b : Limit) : Type 0 where
     pub high : height C w n ≡ h
     pub some : 1 ≤ count C w n
-    pub many : count C w n ≤ C
+    pub many : count C w n ≤ C .cap
     pub begin : start C w n ≡ r
     pub first : row C w n 0 ≡ r
     pub ends : endSound h b (end C w n) (row C w n (count C w n - 1)) ≡ true
 
   module _ (h r : ℕ) (b : Limit) where
     sound-is : sound C h (nodeAt C w n) r b
-        ≡ (eqb (height C w n) h && leb 1 (count C w n) && leb (count C w n) C && rising (pairsFrom C w (λ (x : ℕ). x) n 0 (count C w n))
+        ≡ (eqb (height C w n) h && leb 1 (count C w n) && leb (count C w n) (C .cap) && rising (pairsFrom C w (λ (x : ℕ). x) n 0 (count C w n))
         && eqb (start C w n) (firstRow (pairsFrom C w (λ (x : ℕ). x) n 0 (count C w n))) && eqb (start C w n) r
         && endSound h b (end C w n) (lastRow (pairsFrom C w (λ (x : ℕ). x) n 0 (count C w n))))
     unfolding sound
@@ -113,7 +113,7 @@ module _ (C : ℕ) (w : List ℕ) (n : ℕ) where
         record {
           high = eqb→eq (height C w n) h (search (and-l, and-r) depth 8);
           some = k;
-          many = leb→le (count C w n) C (search (and-l, and-r) depth 8);
+          many = leb→le (count C w n) (C .cap) (search (and-l, and-r) depth 8);
           begin = e;
           first = sym (begins-at (count C w n) k) ∙ sym f ∙ e;
           ends = ap (endSound h b (end C w n)) (sym (ends-of (count C w n) k)) ∙ is-true _ (search (and-l, and-r) depth 8);
@@ -130,7 +130,7 @@ module _ (C : ℕ) (w : List ℕ) (n : ℕ) where
         ∙ rw (
           eq-eqb (height C w n) h (f .high),
           le-leb 1 (count C w n) (f .some),
-          le-leb (count C w n) C (f .many),
+          le-leb (count C w n) (C .cap) (f .many),
           begins-at (count C w n) (f .some),
           ends-of (count C w n) (f .some),
           eq-eqb (start C w n) r (f .begin),

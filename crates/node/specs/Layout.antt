@@ -3,7 +3,7 @@ use Prim.Native.Nat.{ℕ, zero, suc, _+_, _*_}
 use mathlib.Core.List.{List, [], _∷_}
 use lib.ListN.{take, drop}
 use lib.Dec.{eqb}
-use Rattle.model.specs.Words.{pick, capacity, pool, root, freeHead, freeCount, base, part, height, count, start, end, Header}
+use Rattle.model.specs.Words.{lent, Shape, shape, pick, capacity, pool, root, freeHead, freeCount, index, rowPlace, part, height, count, start, end, Header}
 use Rattle.model.specs.Refusals.{headerOk}
 use Rattle.model.specs.declared.node.RowPageIndexNodeHeader.{RowPageIndexNodeHeader}
 use Rattle.model.specs.declared.answer.Refusal.the-variants.{Closed, Unsound}
@@ -12,11 +12,15 @@ use Rattle.node.specs.declared.header.StoreHeader.{StoreHeader}
 use Rattle.node.specs.declared.header.Opened.{Opened}
 use Rattle.node.specs.declared.header.Opened.the-variants.{Open, Refused}
 
+-- the shape of a lent store
+abbrev pub shapeOf : Layout → Shape
+shapeOf l = shape lent (l .capacity)
+
 -- the words are a store of this layout
 abbrev pub Fits : Layout → List ℕ → Type 0
 Fits l w = Header (l .capacity) (l .pool) w
 
-abbrev pub headerAt : ℕ → List ℕ → ℕ → RowPageIndexNodeHeader
+abbrev pub headerAt : Shape → List ℕ → ℕ → RowPageIndexNodeHeader
 headerAt C w n =
     record {
       height = height C w n;
@@ -25,9 +29,9 @@ headerAt C w n =
       «end_row_id» = record { 0 = end C w n };
     }
 
--- "The entries of a node are handed back as that part of the store's words."
-abbrev pub pairWords : ℕ → List ℕ → ℕ → ℕ → List ℕ
-pairWords C w n k = take (2 * k) (drop (base C n + 4) w)
+-- "The entries of a node are handed back as that part of the store's words": pairs i, i + 1, …, k of them
+abbrev pub pairWords : Shape → List ℕ → ℕ → ℕ → ℕ → List ℕ
+pairWords C w n i k = take (2 * k) (drop (index C n (rowPlace i)) w)
 
 abbrev pub storeHeader : List ℕ → StoreHeader
 storeHeader w =

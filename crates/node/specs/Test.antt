@@ -2,7 +2,7 @@
 use Prim.Native.Nat.{ℕ, zero, suc, _+_}
 use mathlib.Core.List.{List, [], _∷_}
 use lib.Dec.{ltb, eqb}
-use Rattle.model.specs.Words.{pick, part, count, child}
+use Rattle.model.specs.Words.{Shape, pick, part, count, child}
 use Rattle.model.specs.Tree.{nodeAt, sound}
 use Rattle.model.specs.Tree as Tree
 use Rattle.node.specs.declared.test.Limit.{Limit}
@@ -15,12 +15,12 @@ limitOf Open = Tree.Open
 limitOf (Below r) = Tree.Below (r .0)
 
 -- the first of child numbers i, i + 1, …, k of them, that is not below P; i + k where all are
-unfoldable pub firstOut : ℕ → ℕ → List ℕ → ℕ → ℕ → ℕ → ℕ
+unfoldable pub firstOut : Shape → ℕ → List ℕ → ℕ → ℕ → ℕ → ℕ
 firstOut C P w n i zero = i
 firstOut C P w n i (suc k) = pick (ltb (child C w n i) P) (firstOut C P w n (i + 1) k) i
 
 -- sound or not; of a branch also "of its children, which number out of range comes first"
-unfoldable pub nodeTest : ℕ → ℕ → List ℕ → ℕ → ℕ → ℕ → Tree.Limit → NodeTest
+unfoldable pub nodeTest : Shape → ℕ → List ℕ → ℕ → ℕ → ℕ → Tree.Limit → NodeTest
 nodeTest C P w n h r b =
     let out = pick (eqb h 0) (count C w n) (firstOut C P w n 0 (count C w n)) in
     pick (sound C h (nodeAt C w n) r b) (Sound out) Unsound

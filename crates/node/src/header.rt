@@ -27,21 +27,13 @@ fn header_ok(s: &[u64]) -> bool
     if s.len() < 8 {
         return false;
     }
-    let capacity = s[0];
-    if capacity < 2 {
-        return false;
-    }
-    if 4094 < capacity {
-        return false;
-    }
     let pool = s[1];
-    if pool < 1 {
-        return false;
-    }
-    if 65535 < pool {
-        return false;
-    }
-    if s.len() as u64 != 8 + pool * (4 + 2 * capacity) {
+    let l = Layout {
+        capacity: s[0],
+        pool,
+    };
+    let fits = l.fits(s);
+    if !fits {
         return false;
     }
     if pool < s[2] {

@@ -1,10 +1,10 @@
-// Where the words of a store lie. Nothing else knows.
+// Which capacity, pool and length make a store, and where its words lie. Nothing else knows.
 
 ghost use mathlib.Core.Path.{_≡_};
 ghost use Prim.Native.Nat.{_+_, _*_, _≤_, _<_};
 ghost use lib.ListN.{length};
-ghost use Rattle.model.specs.Words.{base, child, childPlace, nodeSize, part, row, rowPlace};
-ghost use Rattle.node.specs.Layout.{Fits, headerAt, pairWords};
+ghost use Rattle.model.specs.Words.{child, childPlace, inRange, index, nodeSize, part, row, rowPlace, sized, storeLength};
+ghost use Rattle.node.specs.Layout.{Fits, headerAt, pairWords, shapeOf};
 use model::id::NodeNo;
 use model::id::PageID;
 use model::id::RowID;
@@ -17,20 +17,73 @@ pub struct Layout {
 }
 
 impl Layout {
+    pub const MIN_CAPACITY: u64 = 2;
+
+    pub const MAX_CAPACITY: u64 = 4094;
+
+    pub const MIN_POOL: u64 = 1;
+
+    pub const MAX_POOL: u64 = 65535;
+
+    // Whether capacity and pool are in range.
+    pub fn in_range(self) -> bool
+        ensures { λ r. ⌜ r ≡ inRange (self .capacity) (self .pool) ⌝ }
+    {
+        if self.capacity < Layout::MIN_CAPACITY {
+            return false;
+        }
+        if Layout::MAX_CAPACITY < self.capacity {
+            return false;
+        }
+        if self.pool < Layout::MIN_POOL {
+            return false;
+        }
+        if Layout::MAX_POOL < self.pool {
+            return false;
+        }
+        true
+    }
+
+    // The words of a node.
+    pub fn node_size(self) -> u64
+        requires { ⌜ self .capacity ≤ 4094 ⌝ }
+        ensures { λ r. ⌜ r ≡ nodeSize (self .capacity) ⌝ }
+    {
+        4 + 2 * self.capacity
+    }
+
+    // The words of a store.
+    pub fn store_length(self) -> u64
+        requires { ⌜ (self .capacity ≤ 4094) × (self .pool ≤ 65535) ⌝ }
+        ensures { λ r. ⌜ r ≡ storeLength (self .capacity) (self .pool) ⌝ }
+    {
+        8 + self.pool * self.node_size()
+    }
+
+    // Whether capacity and pool are in range, and the words are as many as they need.
+    pub fn fits(self, s: &[u64]) -> bool
+        ensures { λ r. ⌜ r ≡ sized (self .capacity) (self .pool) (length (now (s .entry))) ⌝ }
+    {
+        let good = self.in_range();
+        if !good {
+            return false;
+        }
+        s.len() as u64 == self.store_length()
+    }
+
     // The place of word j of node n among the store's words.
     pub fn place(self, n: NodeNo, j: u64) -> usize
-        requires { ⌜ (self .capacity ≤ 4094) × (n .0 ≤ 65535) × (j ≤ nodeSize (self .capacity)) ⌝ }
-        ensures { λ r. ⌜ r ≡ base (self .capacity) (n .0) + j ⌝ }
+        requires { ⌜ (self .capacity ≤ 4094) × (n .0 ≤ 65535) × (j < nodeSize (self .capacity)) ⌝ }
+        ensures { λ r. ⌜ r ≡ index (shapeOf self) (n .0) j ⌝ }
     {
-        let size = 4 + 2 * self.capacity;
-        (8 + n.0 * size + j) as usize
+        (8 + n.0 * self.node_size() + j) as usize
     }
 
     // Word j of node n.
     pub fn part(self, s: &[u64], n: NodeNo, j: u64) -> u64
         requires { ⌜ Fits self (now s) ⌝ }
         requires { ⌜ (n .0 < self .pool) × (j < nodeSize (self .capacity)) ⌝ }
-        ensures { λ r. ⌜ r ≡ part (self .capacity) (now (s .entry)) (n .0) j ⌝ }
+        ensures { λ r. ⌜ r ≡ part (shapeOf self) (now (s .entry)) (n .0) j ⌝ }
     {
         let at = self.place(n, j);
         s[at]
@@ -39,7 +92,7 @@ impl Layout {
     // The place of row i in a node.
     pub fn row_place(self, i: u64) -> u64
         requires { ⌜ (i < self .capacity) × (self .capacity ≤ 4094) ⌝ }
-        ensures { λ r. ⌜ r ≡ rowPlace (self .capacity) i ⌝ }
+        ensures { λ r. ⌜ r ≡ rowPlace i ⌝ }
     {
         4 + 2 * i
     }
@@ -47,7 +100,7 @@ impl Layout {
     // The place of page or child number i in a node.
     pub fn child_place(self, i: u64) -> u64
         requires { ⌜ (i < self .capacity) × (self .capacity ≤ 4094) ⌝ }
-        ensures { λ r. ⌜ r ≡ childPlace (self .capacity) i ⌝ }
+        ensures { λ r. ⌜ r ≡ childPlace i ⌝ }
     {
         5 + 2 * i
     }
@@ -56,7 +109,7 @@ impl Layout {
     pub fn header(self, s: &[u64], n: NodeNo) -> RowPageIndexNodeHeader
         requires { ⌜ Fits self (now s) ⌝ }
         requires { ⌜ n .0 < self .pool ⌝ }
-        ensures { λ r. ⌜ r ≡ headerAt (self .capacity) (now (s .entry)) (n .0) ⌝ }
+        ensures { λ r. ⌜ r ≡ headerAt (shapeOf self) (now (s .entry)) (n .0) ⌝ }
     {
         let height = self.part(s, n, 0);
         let count = self.part(s, n, 1);
@@ -74,17 +127,18 @@ impl Layout {
     pub fn entries(self, s: &[u64], n: NodeNo, k: u64) -> &[u64]
         requires { ⌜ Fits self (now s) ⌝ }
         requires { ⌜ (n .0 < self .pool) × (k ≤ self .capacity) ⌝ }
-        ensures { λ r. ⌜ now r ≡ pairWords (self .capacity) (now (s .entry)) (n .0) k ⌝ }
+        ensures { λ r. ⌜ now r ≡ pairWords (shapeOf self) (now (s .entry)) (n .0) 0 k ⌝ }
     {
-        let at = self.place(n, 4);
-        let end = self.place(n, 4 + 2 * k);
+        let at = self.place(n, self.row_place(0));
+        let end = at + 2 * k as usize;
         &s[at..end]
     }
 
+    // Row i of a node.
     pub fn row(self, s: &[u64], n: NodeNo, i: u64) -> RowID
         requires { ⌜ Fits self (now s) ⌝ }
         requires { ⌜ (n .0 < self .pool) × (i < self .capacity) ⌝ }
-        ensures { λ r. ⌜ r .0 ≡ row (self .capacity) (now (s .entry)) (n .0) i ⌝ }
+        ensures { λ r. ⌜ r .0 ≡ row (shapeOf self) (now (s .entry)) (n .0) i ⌝ }
     {
         RowID(self.part(s, n, self.row_place(i)))
     }
@@ -93,7 +147,7 @@ impl Layout {
     pub fn child(self, s: &[u64], n: NodeNo, i: u64) -> NodeNo
         requires { ⌜ Fits self (now s) ⌝ }
         requires { ⌜ (n .0 < self .pool) × (i < self .capacity) ⌝ }
-        ensures { λ r. ⌜ r .0 ≡ child (self .capacity) (now (s .entry)) (n .0) i ⌝ }
+        ensures { λ r. ⌜ r .0 ≡ child (shapeOf self) (now (s .entry)) (n .0) i ⌝ }
     {
         NodeNo(self.part(s, n, self.child_place(i)))
     }
@@ -102,7 +156,7 @@ impl Layout {
     pub fn page(self, s: &[u64], n: NodeNo, i: u64) -> PageID
         requires { ⌜ Fits self (now s) ⌝ }
         requires { ⌜ (n .0 < self .pool) × (i < self .capacity) ⌝ }
-        ensures { λ r. ⌜ r .0 ≡ child (self .capacity) (now (s .entry)) (n .0) i ⌝ }
+        ensures { λ r. ⌜ r .0 ≡ child (shapeOf self) (now (s .entry)) (n .0) i ⌝ }
     {
         PageID(self.part(s, n, self.child_place(i)))
     }

@@ -5,7 +5,7 @@ ghost use mathlib.Core.Bool.{true};
 ghost use Prim.Native.Nat.{ℕ, _+_, _-_, _≤_, _<_};
 ghost use Rattle.model.specs.Words.{row};
 ghost use Rattle.model.specs.Tree.{emptyRoot, endSound, nodeAt, pairsFrom, rising, rootSound, sound};
-ghost use Rattle.node.specs.Layout.{Fits};
+ghost use Rattle.node.specs.Layout.{Fits, shapeOf};
 ghost use Rattle.node.specs.Test.{firstOut, limitOf, nodeTest};
 use crate::layout::Layout;
 use model::id::NodeNo;
@@ -51,7 +51,7 @@ fn end_sound(height: u64, next: Limit, end: RowID, last: RowID) -> bool
 fn rises(l: Layout, s: &[u64], n: NodeNo, count: u64) -> bool
     requires { ⌜ Fits l (now s) ⌝ }
     requires { ⌜ (n .0 < l .pool) × (1 ≤ count) × (count ≤ l .capacity) ⌝ }
-    ensures { λ r. ⌜ r ≡ rising (pairsFrom (l .capacity) (now (s .entry)) (λ (x : ℕ). x) (n .0) 0 count) ⌝ }
+    ensures { λ r. ⌜ r ≡ rising (pairsFrom (shapeOf l) (now (s .entry)) (λ (x : ℕ). x) (n .0) 0 count) ⌝ }
 {
     let mut last = l.row(s, n, 0).0;
     let mut i: u64 = 1;
@@ -90,7 +90,7 @@ fn rises(l: Layout, s: &[u64], n: NodeNo, count: u64) -> bool
 fn first_out(l: Layout, s: &[u64], n: NodeNo, count: u64) -> u64
     requires { ⌜ Fits l (now s) ⌝ }
     requires { ⌜ (n .0 < l .pool) × (count ≤ l .capacity) ⌝ }
-    ensures { λ r. ⌜ r ≡ firstOut (l .capacity) (l .pool) (now (s .entry)) (n .0) 0 count ⌝ }
+    ensures { λ r. ⌜ r ≡ firstOut (shapeOf l) (l .pool) (now (s .entry)) (n .0) 0 count ⌝ }
 {
     let mut i: u64 = 0;
     while i < count {
@@ -106,7 +106,7 @@ fn first_out(l: Layout, s: &[u64], n: NodeNo, count: u64) -> u64
 pub fn is_sound(l: Layout, s: &[u64], n: NodeNo, height: u64, row: RowID, next: Limit) -> bool
     requires { ⌜ Fits l (now s) ⌝ }
     requires { ⌜ n .0 < l .pool ⌝ }
-    ensures { λ r. ⌜ r ≡ sound (l .capacity) height (nodeAt (l .capacity) (now (s .entry)) (n .0)) (row .0) (limitOf next) ⌝ }
+    ensures { λ r. ⌜ r ≡ sound (shapeOf l) height (nodeAt (shapeOf l) (now (s .entry)) (n .0)) (row .0) (limitOf next) ⌝ }
 {
     let h = l.header(s, n);
     let count = h.count;
@@ -137,7 +137,7 @@ pub fn is_sound(l: Layout, s: &[u64], n: NodeNo, height: u64, row: RowID, next: 
 pub fn test_node(l: Layout, s: &[u64], n: NodeNo, height: u64, row: RowID, next: Limit) -> NodeTest
     requires { ⌜ Fits l (now s) ⌝ }
     requires { ⌜ n .0 < l .pool ⌝ }
-    ensures { λ r. ⌜ r ≡ nodeTest (l .capacity) (l .pool) (now (s .entry)) (n .0) height (row .0) (limitOf next) ⌝ }
+    ensures { λ r. ⌜ r ≡ nodeTest (shapeOf l) (l .pool) (now (s .entry)) (n .0) height (row .0) (limitOf next) ⌝ }
 {
     let good = is_sound(l, s, n, height, row, next);
     if !good {
@@ -154,7 +154,7 @@ pub fn test_node(l: Layout, s: &[u64], n: NodeNo, height: u64, row: RowID, next:
 pub fn is_empty_root(l: Layout, s: &[u64], n: NodeNo) -> bool
     requires { ⌜ Fits l (now s) ⌝ }
     requires { ⌜ n .0 < l .pool ⌝ }
-    ensures { λ r. ⌜ r ≡ emptyRoot (l .capacity) (now (s .entry)) (n .0) ⌝ }
+    ensures { λ r. ⌜ r ≡ emptyRoot (shapeOf l) (now (s .entry)) (n .0) ⌝ }
 {
     let h = l.header(s, n);
     if !h.is_leaf() {
@@ -173,7 +173,7 @@ pub fn is_empty_root(l: Layout, s: &[u64], n: NodeNo) -> bool
 pub fn is_sound_root(l: Layout, s: &[u64], n: NodeNo) -> bool
     requires { ⌜ Fits l (now s) ⌝ }
     requires { ⌜ n .0 < l .pool ⌝ }
-    ensures { λ r. ⌜ r ≡ rootSound (l .capacity) (now (s .entry)) (n .0) ⌝ }
+    ensures { λ r. ⌜ r ≡ rootSound (shapeOf l) (now (s .entry)) (n .0) ⌝ }
 {
     let empty = is_empty_root(l, s, n);
     if empty {

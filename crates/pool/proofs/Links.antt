@@ -10,7 +10,7 @@ use lib.ListN.{getD, set, length}
 use lib.Seq.{getD-set-same, getD-set-other}
 use lib.Dec.{eqb, leb, ltb, ltb→lt, leb→le, eqb→eq}
 use borrow.Author.Tests.{lt-ltb, le-ltb, le-leb, eq-eqb, ne-eqb}
-use Rattle.model.specs.Words.{height, count, freeMark}
+use Rattle.model.specs.Words.{Shape, height, count, freeMark}
 use Rattle.model.specs.Reading.{occ}
 use Rattle.model.specs.Append.{chainSound, firsts}
 use Rattle.model.specs.declared.id.NodeNo.{NodeNo}
@@ -58,7 +58,7 @@ module _ (n : ℕ) (l : List NodeNo) (i k : ℕ) where
 -- The chain ----------------------------------------------------------------------------------------------
 
 -- the test of one node
-module _ (C P : ℕ) (w : List ℕ) (n : ℕ) where
+module _ (C : Shape) (P : ℕ) (w : List ℕ) (n : ℕ) where
   pub link-out : P ≤ n → false ≡ isLink C P w n
   link-out h = rw (le-ltb n P h)
 
@@ -69,13 +69,13 @@ module _ (C P : ℕ) (w : List ℕ) (n : ℕ) where
   link-marked h e = rw (lt-ltb n P h, e)
 
 -- node n may follow the nodes seen
-pub record Link (C P : ℕ) (w : List ℕ) (n : ℕ) (seen : List ℕ) : Type 0 where
+pub record Link (C : Shape) (P : ℕ) (w : List ℕ) (n : ℕ) (seen : List ℕ) : Type 0 where
   pub inside : n < P
   pub marked : height C w n ≡ freeMark
   pub next : count C w n ≤ P
   pub new : eqb (occ n seen) 0 ≡ true
 
-module _ (C P : ℕ) (w : List ℕ) (n : ℕ) (seen : List ℕ) where
+module _ (C : Shape) (P : ℕ) (w : List ℕ) (n : ℕ) (seen : List ℕ) where
   pub link : (k : ℕ) → chainSound C P w n seen (suc k) ≡ true → Link C P w n seen
   unfolding chainSound
   link k e =
@@ -112,7 +112,7 @@ module _ (C P : ℕ) (w : List ℕ) (n : ℕ) (seen : List ℕ) where
     pub broken : {x : Bool} {A : Type 0} → x ≡ chainSound C P w n seen (k - i) → (Link C P w n seen → ⊥) → (false ≡ x) × (false ≡ true → A)
     broken e f = (sym (e ∙ unlinked f), λ z. absurd (false≢true z))
 
-module _ (C : ℕ) (w : List ℕ) (n i k : ℕ) where
+module _ (C : Shape) (w : List ℕ) (n i k : ℕ) where
   pub firsts-turn : (seen : List ℕ) → i < k → seen ++ firsts C w n (k - i) ≡ (seen ++ (n ∷ [])) ++ firsts C w (count C w n) (k - (i + 1))
   unfolding firsts
   firsts-turn seen h = ap (λ (z : List ℕ). seen ++ z) (turn (firsts C w n) i k h) ∙ sym (append-assoc seen (n ∷ []) (firsts C w (count C w n) (k - (i + 1))))

@@ -9,7 +9,7 @@ ghost use lib.ListN.{length, set};
 ghost use Rattle.model.specs.Words.{freeCount, freed};
 ghost use Rattle.model.specs.Reading.{occ};
 ghost use Rattle.model.specs.Append.{chainSound, firsts, past};
-ghost use Rattle.node.specs.Layout.{Fits};
+ghost use Rattle.node.specs.Layout.{Fits, shapeOf};
 ghost use Rattle.pool.specs.Write.{isLink, listed};
 use crate::write;
 use model::id::NodeNo;
@@ -29,7 +29,7 @@ pub fn set_chain(s: &mut [u64], head: NodeNo, free: u64)
 pub fn free_node(l: Layout, s: &mut [u64], n: NodeNo)
     requires { ⌜ Fits l (now s) ⌝ }
     requires { ⌜ (n .0 < l .pool) × (freeCount (now s) ≤ 65535) ⌝ }
-    ensures { λ _. ⌜ now (s .exit) ≡ freed (l .capacity) (now (s .entry)) (n .0) ⌝ }
+    ensures { λ _. ⌜ now (s .exit) ≡ freed (shapeOf l) (now (s .entry)) (n .0) ⌝ }
 {
     let head = s[3];
     let free = s[4];
@@ -57,7 +57,7 @@ fn holds(nodes: [NodeNo; 32], k: usize, n: NodeNo) -> bool
 // Whether node n may be in the chain: below the pool and marked free, its next number at most the pool.
 fn is_link(l: Layout, s: &[u64], n: NodeNo) -> bool
     requires { ⌜ Fits l (now s) ⌝ }
-    ensures { λ r. ⌜ r ≡ isLink (l .capacity) (l .pool) (now (s .entry)) (n .0) ⌝ }
+    ensures { λ r. ⌜ r ≡ isLink (shapeOf l) (l .pool) (now (s .entry)) (n .0) ⌝ }
 {
     if l.pool <= n.0 {
         return false;
@@ -81,8 +81,8 @@ pub struct Wanted {
 pub fn read_chain(l: Layout, s: &[u64], head: NodeNo, k: usize) -> Wanted
     requires { ⌜ Fits l (now s) ⌝ }
     requires { ⌜ k ≤ 32 ⌝ }
-    ensures ok { λ r. ⌜ r .sound ≡ chainSound (l .capacity) (l .pool) (now (s .entry)) (head .0) [] k ⌝ }
-    ensures given { λ r. ⌜ (r .sound ≡ true → (listed (r .nodes) 0 k ≡ firsts (l .capacity) (now (s .entry)) (head .0) k) × (r .next .0 ≡ past (l .capacity) (now (s .entry)) (head .0) k)) ⌝ }
+    ensures ok { λ r. ⌜ r .sound ≡ chainSound (shapeOf l) (l .pool) (now (s .entry)) (head .0) [] k ⌝ }
+    ensures given { λ r. ⌜ (r .sound ≡ true → (listed (r .nodes) 0 k ≡ firsts (shapeOf l) (now (s .entry)) (head .0) k) × (r .next .0 ≡ past (shapeOf l) (now (s .entry)) (head .0) k)) ⌝ }
 {
     let mut nodes = [NodeNo(0); 32];
     let mut n = head;

@@ -5,7 +5,7 @@ ghost use Prim.Native.Nat.{_+_, _*_, _-_, _≤_, _<_};
 ghost use lib.ListN.{length, set};
 ghost use Rattle.model.specs.Words.{added, copied, count, emptied, nodeSize, put};
 ghost use Rattle.model.specs.Prune.{moved};
-ghost use Rattle.node.specs.Layout.{Fits};
+ghost use Rattle.node.specs.Layout.{Fits, shapeOf};
 ghost use Rattle.pool.specs.Write.{putEntry, putHeader};
 use model::id::NodeNo;
 use model::id::PageID;
@@ -25,7 +25,7 @@ pub fn set_word(s: &mut [u64], i: usize, x: u64)
 pub fn put(l: Layout, s: &mut [u64], n: NodeNo, j: u64, x: u64)
     requires { ⌜ Fits l (now s) ⌝ }
     requires { ⌜ (n .0 < l .pool) × (j < nodeSize (l .capacity)) ⌝ }
-    ensures { λ _. ⌜ now (s .exit) ≡ put (l .capacity) (now (s .entry)) (n .0) j x ⌝ }
+    ensures { λ _. ⌜ now (s .exit) ≡ put (shapeOf l) (now (s .entry)) (n .0) j x ⌝ }
 {
     let at = l.place(n, j);
     s[at] = x;
@@ -35,7 +35,7 @@ pub fn put(l: Layout, s: &mut [u64], n: NodeNo, j: u64, x: u64)
 pub fn put_header(l: Layout, s: &mut [u64], n: NodeNo, h: RowPageIndexNodeHeader)
     requires { ⌜ Fits l (now s) ⌝ }
     requires { ⌜ n .0 < l .pool ⌝ }
-    ensures { λ _. ⌜ now (s .exit) ≡ putHeader (l .capacity) (now (s .entry)) (n .0) h ⌝ }
+    ensures { λ _. ⌜ now (s .exit) ≡ putHeader (shapeOf l) (now (s .entry)) (n .0) h ⌝ }
 {
     put(l, s, n, 0, h.height);
     put(l, s, n, 1, h.count);
@@ -47,7 +47,7 @@ pub fn put_header(l: Layout, s: &mut [u64], n: NodeNo, h: RowPageIndexNodeHeader
 pub fn empty_node(l: Layout, s: &mut [u64], n: NodeNo, start: RowID)
     requires { ⌜ Fits l (now s) ⌝ }
     requires { ⌜ n .0 < l .pool ⌝ }
-    ensures { λ _. ⌜ now (s .exit) ≡ emptied (l .capacity) (now (s .entry)) (n .0) (start .0) ⌝ }
+    ensures { λ _. ⌜ now (s .exit) ≡ emptied (shapeOf l) (now (s .entry)) (n .0) (start .0) ⌝ }
 {
     put_header(
         l,
@@ -66,7 +66,7 @@ pub fn empty_node(l: Layout, s: &mut [u64], n: NodeNo, start: RowID)
 fn put_pair(l: Layout, s: &mut [u64], n: NodeNo, i: u64, row: RowID, x: u64)
     requires { ⌜ Fits l (now s) ⌝ }
     requires { ⌜ (n .0 < l .pool) × (i < l .capacity) ⌝ }
-    ensures { λ _. ⌜ now (s .exit) ≡ putEntry (l .capacity) (now (s .entry)) (n .0) i (row .0) x ⌝ }
+    ensures { λ _. ⌜ now (s .exit) ≡ putEntry (shapeOf l) (now (s .entry)) (n .0) i (row .0) x ⌝ }
 {
     put(l, s, n, l.row_place(i), row.0);
     put(l, s, n, l.child_place(i), x);
@@ -76,7 +76,7 @@ fn put_pair(l: Layout, s: &mut [u64], n: NodeNo, i: u64, row: RowID, x: u64)
 pub fn put_page(l: Layout, s: &mut [u64], n: NodeNo, i: u64, row: RowID, page: PageID)
     requires { ⌜ Fits l (now s) ⌝ }
     requires { ⌜ (n .0 < l .pool) × (i < l .capacity) ⌝ }
-    ensures { λ _. ⌜ now (s .exit) ≡ putEntry (l .capacity) (now (s .entry)) (n .0) i (row .0) (page .0) ⌝ }
+    ensures { λ _. ⌜ now (s .exit) ≡ putEntry (shapeOf l) (now (s .entry)) (n .0) i (row .0) (page .0) ⌝ }
 {
     put_pair(l, s, n, i, row, page.0);
 }
@@ -85,7 +85,7 @@ pub fn put_page(l: Layout, s: &mut [u64], n: NodeNo, i: u64, row: RowID, page: P
 pub fn put_child(l: Layout, s: &mut [u64], n: NodeNo, i: u64, row: RowID, child: NodeNo)
     requires { ⌜ Fits l (now s) ⌝ }
     requires { ⌜ (n .0 < l .pool) × (i < l .capacity) ⌝ }
-    ensures { λ _. ⌜ now (s .exit) ≡ putEntry (l .capacity) (now (s .entry)) (n .0) i (row .0) (child .0) ⌝ }
+    ensures { λ _. ⌜ now (s .exit) ≡ putEntry (shapeOf l) (now (s .entry)) (n .0) i (row .0) (child .0) ⌝ }
 {
     put_pair(l, s, n, i, row, child.0);
 }
@@ -93,8 +93,8 @@ pub fn put_child(l: Layout, s: &mut [u64], n: NodeNo, i: u64, row: RowID, child:
 // One more entry in leaf n.
 pub fn add_page(l: Layout, s: &mut [u64], n: NodeNo, row: RowID, page: PageID)
     requires { ⌜ Fits l (now s) ⌝ }
-    requires { ⌜ (n .0 < l .pool) × (count (l .capacity) (now s) (n .0) < l .capacity) ⌝ }
-    ensures { λ _. ⌜ now (s .exit) ≡ added (l .capacity) (now (s .entry)) (n .0) (row .0) (page .0) ⌝ }
+    requires { ⌜ (n .0 < l .pool) × (count (shapeOf l) (now s) (n .0) < l .capacity) ⌝ }
+    ensures { λ _. ⌜ now (s .exit) ≡ added (shapeOf l) (now (s .entry)) (n .0) (row .0) (page .0) ⌝ }
 {
     let k = l.part(&s[..], n, 1);
     put_page(l, s, n, k, row, page);
@@ -104,8 +104,8 @@ pub fn add_page(l: Layout, s: &mut [u64], n: NodeNo, row: RowID, page: PageID)
 // One more entry in branch n.
 pub fn add_child(l: Layout, s: &mut [u64], n: NodeNo, row: RowID, child: NodeNo)
     requires { ⌜ Fits l (now s) ⌝ }
-    requires { ⌜ (n .0 < l .pool) × (count (l .capacity) (now s) (n .0) < l .capacity) ⌝ }
-    ensures { λ _. ⌜ now (s .exit) ≡ added (l .capacity) (now (s .entry)) (n .0) (row .0) (child .0) ⌝ }
+    requires { ⌜ (n .0 < l .pool) × (count (shapeOf l) (now s) (n .0) < l .capacity) ⌝ }
+    ensures { λ _. ⌜ now (s .exit) ≡ added (shapeOf l) (now (s .entry)) (n .0) (row .0) (child .0) ⌝ }
 {
     let k = l.part(&s[..], n, 1);
     put_child(l, s, n, k, row, child);
@@ -116,9 +116,9 @@ pub fn add_child(l: Layout, s: &mut [u64], n: NodeNo, row: RowID, child: NodeNo)
 pub fn copy_node(l: Layout, s: &mut [u64], from: NodeNo, to: NodeNo)
     requires { ⌜ Fits l (now s) ⌝ }
     requires { ⌜ (from .0 < l .pool) × (to .0 < l .pool) ⌝ }
-    ensures { λ _. ⌜ now (s .exit) ≡ copied (l .capacity) (now (s .entry)) (from .0) (to .0) ⌝ }
+    ensures { λ _. ⌜ now (s .exit) ≡ copied (shapeOf l) (now (s .entry)) (from .0) (to .0) ⌝ }
 {
-    let size = 4 + 2 * l.capacity;
+    let size = l.node_size();
     let mut j: u64 = 0;
     while j < size {
         let x = l.part(&s[..], from, j);
@@ -131,7 +131,7 @@ pub fn copy_node(l: Layout, s: &mut [u64], from: NodeNo, to: NodeNo)
 pub fn move_front(l: Layout, s: &mut [u64], n: NodeNo, k: u64, m: u64)
     requires { ⌜ Fits l (now s) ⌝ }
     requires { ⌜ (n .0 < l .pool) × (k + m ≤ l .capacity) ⌝ }
-    ensures { λ _. ⌜ now (s .exit) ≡ moved (l .capacity) (now (s .entry)) (n .0) k 0 m ⌝ }
+    ensures { λ _. ⌜ now (s .exit) ≡ moved (shapeOf l) (now (s .entry)) (n .0) k 0 m ⌝ }
 {
     let mut i: u64 = 0;
     while i < m {

@@ -9,7 +9,7 @@ use native.Mathlib.Nat.{sub-zero}
 use lib.ListN.{getD, set, length, drop, replicate}
 use lib.Dec.{eqb, ltb}
 use borrow.Author.Tests.{ltb-true, ltb-false}
-use Rattle.model.specs.Words.{pick, part, height, count, start, child}
+use Rattle.model.specs.Words.{Shape, pick, part, height, count, start, child}
 use Rattle.model.specs.Tree.{Open, nodeAt, level}
 use Rattle.model.specs.Reading.{Visit, Enter, Leave, Bad, passes, visits}
 use Rattle.model.specs.Prune.{Scan, stopped, on, scanLeaf, spoilt, scan, ranOut}
@@ -39,7 +39,7 @@ use Rattle.prefix.proofs.Traces.{sound-level, start-behind, path-out, p
 use Rattle.prefix.proofs.Scans.{one-left, none-left, ends-long, scan-stopped, scan-used, noded}
 
 -- S is what the list comes to; it is named up to a place, and the last entry named ends at a row
-pub record Scanning (C P : ℕ) (w : List ℕ) (e root : ℕ) (ids : List ℕ) (S : Scan) (p : Path) (nexts : List Limit) (firsts : List ℕ) (named to last : ℕ) : Type 0 where
+pub record Scanning (C : Shape) (P : ℕ) (w : List ℕ) (e root : ℕ) (ids : List ℕ) (S : Scan) (p : Path) (nexts : List Limit) (firsts : List ℕ) (named to last : ℕ) : Type 0 where
   pub answer : Survey
   pub counts : Counts
   pub going : Going C P w false answer p nexts firsts counts
@@ -47,7 +47,7 @@ pub record Scanning (C P : ℕ) (w : List ℕ) (e root : ℕ) (ids : List ℕ) (
   pub behind : BehindPath C P w root p
   pub named-last : length ids ≤ named → (0 < p .depth) × Last C w (lastOf p .node .0) last to
 
-module _ (C P : ℕ) (w : List ℕ) (e root : ℕ) (ids : List ℕ) (S : Scan) (p : Path) (nexts : List Limit) (firsts : List ℕ) (named to last : ℕ) (G : Scanning C P w e root ids S p nexts firsts named to last) where
+module _ (C : Shape) (P : ℕ) (w : List ℕ) (e root : ℕ) (ids : List ℕ) (S : Scan) (p : Path) (nexts : List Limit) (firsts : List ℕ) (named to last : ℕ) (G : Scanning C P w e root ids S p nexts firsts named to last) where
   -- the list is used
   pub used : length ids ≤ named → S ≡ ranOut e (on [] named to)
   used l = G .told ∙ rw (none-left ids named l, scan-used C w e (left false C P w p) named to)
@@ -146,14 +146,14 @@ module _ (C P : ℕ) (w : List ℕ) (e root : ℕ) (ids : List ℕ) (S : Scan) (
               }
 
 -- the first turn, at a node just entered
-pub start-scanning : (C P : ℕ) (w : List ℕ) (e : ℕ) (ids : List ℕ) (root first named to last : ℕ) → Valid C P w (height C w root) (entered root ∷ []) → first ≡ outOf C P w (height C w root) root
+pub start-scanning : (C : Shape) (P : ℕ) (w : List ℕ) (e : ℕ) (ids : List ℕ) (root first named to last : ℕ) → Valid C P w (height C w root) (entered root ∷ []) → first ≡ outOf C P w (height C w root) root
     → Passed C P w (height C w root) root [] → (length ids ≤ named → Last C w root last to)
     → Scanning C P w e root ids (ranOut e (scan C w e (left false C P w (rooted root)) (on (drop named ids) named to))) (rooted root) (replicate 32 L.Open) (replicate 32 first) named to last
 start-scanning C P w e ids root first named to last v f g k =
     record { answer = _; counts = noCounts; going = start-going C P w false root first noCounts v f; told = refl; behind = start-behind C P w root g; named-last = λ m. (omega arith, k m) }
 
 -- from a root that passed its test
-module _ (C P : ℕ) (w : List ℕ) (e n : ℕ) (inside-pool : n < P) (pass : passes false C (height C w n) (nodeAt C w n) (start C w n) Open ≡ true) where
+module _ (C : Shape) (P : ℕ) (w : List ℕ) (e n : ℕ) (inside-pool : n < P) (pass : passes false C (height C w n) (nodeAt C w n) (start C w n) Open ≡ true) where
   pub tree-scan : (s : Scan) → scan C w e (visits false C P (suc (height C w n)) n (level C w (suc (height C w n)) n) (start C w n) Open) s
       ≡ scan C w e (rest false C P w (height C w n) (entered n ∷ [])) (pick (eqb (height C w n) 0) (scanLeaf C w e n 0 (count C w n) s) s)
   unfolding scan bound rest

@@ -11,7 +11,7 @@ use lib.ListN.{getD, length, drop, drop-of-length-le}
 use lib.Seq.{drop-cons}
 use lib.Dec.{eqb, leb}
 use borrow.Author.Tests.{eq-eqb, ne-eqb, le-leb, lt-leb, eqb-true}
-use Rattle.model.specs.Words.{pick, height, count, child}
+use Rattle.model.specs.Words.{Shape, pick, height, count, child}
 use Rattle.model.specs.Reading.{Visit, Enter, Leave, Bad}
 use Rattle.model.proofs.Tests.{by-test}
 use Rattle.prefix.specs.Behind.{Last}
@@ -29,7 +29,7 @@ module _ (ids : List ℕ) (p : ℕ) where
   pub one-left : p < length ids → drop p ids ≡ getD ids p 0 ∷ drop (p + 1) ids
   one-left l = drop-cons ids p 0 l ∙ ap (λ (k : ℕ). getD ids p 0 ∷ drop k ids) (sym (add-one p))
 
-module _ (C : ℕ) (w : List ℕ) (e : ℕ) where
+module _ (C : Shape) (w : List ℕ) (e : ℕ) where
   pub leaf-stopped : (n i k a d : ℕ) → scanLeaf C w e n i k (stopped a d) ≡ stopped a d
   unfolding scanLeaf against
   leaf-stopped n i zero a d = refl
@@ -97,19 +97,19 @@ unfolding ranOut
 ends-long e ids p c l = rw (one-left ids p l)
 
 -- what is said of a leaf, where h and k are its height and count
-pub told : (C : ℕ) (w : List ℕ) (e n : ℕ) (ids : List ℕ) (p c h k : ℕ) → h ≡ height C w n → h ≡ 0 → k ≡ count C w n → {x : Scan} → x ≡ scanLeaf C w e n 0 k (on (drop p ids) p c)
+pub told : (C : Shape) (w : List ℕ) (e n : ℕ) (ids : List ℕ) (p c h k : ℕ) → h ≡ height C w n → h ≡ 0 → k ≡ count C w n → {x : Scan} → x ≡ scanLeaf C w e n 0 k (on (drop p ids) p c)
     → x ≡ pick (eqb (height C w n) 0) (scanLeaf C w e n 0 (count C w n) (on (drop p ids) p c)) (on (drop p ids) p c)
 told C w e n ids p c h k a b d q = rw (eq-eqb (height C w n) 0 (sym a ∙ b)) (q ∙ ap (λ (j : ℕ). scanLeaf C w e n 0 j (on (drop p ids) p c)) d)
 
 -- The last entry named ---------------------------------------------------------------------------------------
 -- from place p and entry i on, k entries lead to place p₂
-pub record Leafed (C : ℕ) (w : List ℕ) (n i k p c p₂ c₂ : ℕ) : Type 0 where
+pub record Leafed (C : Shape) (w : List ℕ) (n i k p c p₂ c₂ : ℕ) : Type 0 where
   pub onward : p ≤ p₂
   pub most : p₂ ≤ p + k
   pub same : p ≡ p₂ → c₂ ≡ c
   pub ends : p < p₂ → c₂ ≡ entryEnd C w n (i + (p₂ - p) - 1)
 
-module _ (C : ℕ) (w : List ℕ) (e n : ℕ) where
+module _ (C : Shape) (w : List ℕ) (e n : ℕ) where
   still : (i k p c p₂ c₂ : ℕ) (ids ids₂ : List ℕ) → on ids p c ≡ on ids₂ p₂ c₂ → Leafed C w n i k p c p₂ c₂
   still i k p c p₂ c₂ ids ids₂ q =
       let a : p ≡ p₂ = cc in

@@ -8,7 +8,7 @@ use native.Mathlib.Omega.{arith}
 use native.Mathlib.Nat.{zero-add}
 use lib.Dec.{T, ltb, lt→ltb}
 use borrow.Author.Tests.{lt-ltb, le-ltb, ltb-false}
-use Rattle.model.specs.Words.{pick, part, height, count, start, end, row, child}
+use Rattle.model.specs.Words.{Shape, pick, part, height, count, start, end, row, child}
 use Rattle.model.specs.Tree.{Limit, Open, Below, Level, pairsFrom, nodeAt, level, next, last, sound, allPairs, AllSound}
 use Rattle.model.specs.Reading.{passes, nextRow}
 use Rattle.model.specs.Paths.{stack, trail, lastOf, above, turned, entered}
@@ -34,7 +34,7 @@ all-snoc Q [] r x b a q = (q, tt)
 all-snoc Q (p ∷ []) r x b a q = (a .0, (q, tt))
 all-snoc Q (p ∷ p₂ ∷ ps) r x b a q = (a .0, all-snoc Q (p₂ ∷ ps) r x b (a .1) q)
 
-module _ (C P : ℕ) (w : List ℕ) where
+module _ (C : Shape) (P : ℕ) (w : List ℕ) where
   limit-mid : (h n k : ℕ) (up : List Position) → k < count C w n → limitAt C P w h n k up ≡ Below (row C w n k)
   limit-mid h n k up l = rw (lt-ltb k (count C w n) l)
 
@@ -140,7 +140,7 @@ module _ (C P : ℕ) (w : List ℕ) where
       }
 
 -- The same in the loop's terms -----------------------------------------------------------------------------
-module _ (C P : ℕ) (w : List ℕ) (root : ℕ) where
+module _ (C : Shape) (P : ℕ) (w : List ℕ) (root : ℕ) where
   fit : (h : ℕ) (st : List Position) → Behind C P w root h st → Behind C P w root (lowest C w st) st
   unfolding Behind lowest
   fit h [] b = tt

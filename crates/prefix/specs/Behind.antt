@@ -4,7 +4,7 @@ use Prim.Native.Nat.{ℕ, zero, suc, _+_, _-_, _<_, _≤_}
 use mathlib.Core.List.{List, [], _∷_}
 use mathlib.Core.Path.{_≡_}
 use lib.Dec.{T, ltb}
-use Rattle.model.specs.Words.{pick, part, height, count, start, end, row, child}
+use Rattle.model.specs.Words.{Shape, pick, part, height, count, start, end, row, child}
 use Rattle.model.specs.Tree.{Limit, Below, sound, level, last, pairsFrom, allPairs, AllSound}
 use Rattle.model.specs.Prune.{entryEnd}
 use Rattle.model.specs.Paths.{trail}
@@ -12,7 +12,7 @@ use Rattle.model.specs.declared.path.Position.{Position}
 use Rattle.model.specs.declared.path.Path.{Path}
 use Rattle.walk.specs.Left.{bound, lowest}
 
-module _ (C P : ℕ) (w : List ℕ) where
+module _ (C : Shape) (P : ℕ) (w : List ℕ) where
   -- node n of height h below the positions up passed its test
   pub record Passed (h n : ℕ) (up : List Position) : Type 0 where
     pub inside : n < P
@@ -54,7 +54,7 @@ module _ (C P : ℕ) (w : List ℕ) where
   BehindPath root p = Behind root (lowest C w (trail p)) (trail p)
 
 -- the last entry named is entry u - 1 of leaf n, and ends at row c
-pub record Last (C : ℕ) (w : List ℕ) (n u c : ℕ) : Type 0 where
+pub record Last (C : Shape) (w : List ℕ) (n u c : ℕ) : Type 0 where
   pub leaf : height C w n ≡ 0
   pub some : 1 ≤ u
   pub within : u ≤ count C w n

@@ -3,6 +3,7 @@ use Prim.Native.Nat.{ℕ, _<_}
 use mathlib.Core.Path.{_≡_}
 use mathlib.Core.List.{List, []}
 use lib.ListN.{drop, length}
+use Rattle.model.specs.Words.{Shape}
 use Rattle.model.specs.Refusals.{Answer, result, refused, refusal}
 use Rattle.model.specs.Prune.{Scan, stopped, on}
 use Rattle.model.specs.Paths.{lastOf}
@@ -31,19 +32,19 @@ namedOf e (Entries k) = on [] k e
 namedOf e (Refused r) = stoppedBy (refusal r)
 
 -- the path to the leaf of the last entry named, with how many entries of that leaf are named
-pub record Ended (C P : ℕ) (w : List ℕ) (e root : ℕ) (p : Path) (u : ℕ) : Type 0 where
+pub record Ended (C : Shape) (P : ℕ) (w : List ℕ) (e root : ℕ) (p : Path) (u : ℕ) : Type 0 where
   pub deep : 0 < p .depth
   pub long : length (p .positions) ≡ 32
   pub valid : ValidPath C P w p
   pub behind : BehindPath C P w root p
   pub last : Last C w (lastOf p .node .0) u e
 
-abbrev pub endingOf : ℕ → ℕ → List ℕ → ℕ → ℕ → Named → Path → ℕ → Type 0
+abbrev pub endingOf : Shape → ℕ → List ℕ → ℕ → ℕ → Named → Path → ℕ → Type 0
 endingOf C P w e root (Entries k) p u = Ended C P w e root p u
 endingOf C P w e root (Refused r) p u = Unit {0}
 
 -- where the list is accepted
-unfoldable pub Ending : ℕ → ℕ → List ℕ → ℕ → ℕ → Prefix → Type 0
+unfoldable pub Ending : Shape → ℕ → List ℕ → ℕ → ℕ → Prefix → Type 0
 Ending C P w e root x = endingOf C P w e root (x .answer) (x .path) (x .used)
 
 -- a list is accepted where the last entry named ends at e

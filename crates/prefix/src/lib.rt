@@ -11,7 +11,7 @@ ghost use Rattle.model.specs.Tree.{Open, level, nodeAt};
 ghost use Rattle.model.specs.Reading.{passes, visits};
 ghost use Rattle.model.specs.Prune.{entryEnd, on, ranOut, scan, scanLeaf};
 ghost use Rattle.model.specs.Paths.{entered};
-ghost use Rattle.node.specs.Layout.{Fits};
+ghost use Rattle.node.specs.Layout.{Fits, shapeOf};
 ghost use Rattle.walk.specs.Left.{Valid, rest};
 ghost use Rattle.walk.specs.Turn.{outOf};
 ghost use Rattle.prefix.specs.Behind.{Last, Passed};
@@ -49,8 +49,8 @@ pub struct Prefix {
 // The end of entry i of leaf n.
 fn entry_end(l: Layout, s: &[u64], n: NodeNo, i: u64) -> RowID
     requires { ⌜ Fits l (now s) ⌝ }
-    requires { ⌜ (n .0 < l .pool) × (i < count (l .capacity) (now s) (n .0)) × (count (l .capacity) (now s) (n .0) ≤ l .capacity) ⌝ }
-    ensures { λ r. ⌜ r .0 ≡ entryEnd (l .capacity) (now (s .entry)) (n .0) i ⌝ }
+    requires { ⌜ (n .0 < l .pool) × (i < count (shapeOf l) (now s) (n .0)) × (count (shapeOf l) (now s) (n .0) ≤ l .capacity) ⌝ }
+    ensures { λ r. ⌜ r .0 ≡ entryEnd (shapeOf l) (now (s .entry)) (n .0) i ⌝ }
 {
     let count = l.part(s, n, 1);
     if i + 1 < count {
@@ -70,8 +70,8 @@ fn scan_node(
     reached: RowID,
 ) -> Progress
     requires { ⌜ Fits l (now s) ⌝ }
-    requires { ⌜ (n .0 < l .pool) × (count (l .capacity) (now s) (n .0) ≤ l .capacity) ⌝ }
-    ensures { λ r. ⌜ progressOf (now (ids .entry)) r ≡ pick (eqb (height (l .capacity) (now (s .entry)) (n .0)) 0) (scanLeaf (l .capacity) (now (s .entry)) (end .0) (n .0) 0 (count (l .capacity) (now (s .entry)) (n .0)) (on (drop place (now (ids .entry))) place (reached .0))) (on (drop place (now (ids .entry))) place (reached .0)) ⌝ }
+    requires { ⌜ (n .0 < l .pool) × (count (shapeOf l) (now s) (n .0) ≤ l .capacity) ⌝ }
+    ensures { λ r. ⌜ progressOf (now (ids .entry)) r ≡ pick (eqb (height (shapeOf l) (now (s .entry)) (n .0)) 0) (scanLeaf (shapeOf l) (now (s .entry)) (end .0) (n .0) 0 (count (shapeOf l) (now (s .entry)) (n .0)) (on (drop place (now (ids .entry))) place (reached .0))) (on (drop place (now (ids .entry))) place (reached .0)) ⌝ }
 {
     let height = l.part(s, n, 0);
     if height != 0 {
@@ -124,11 +124,11 @@ fn scan_below(
     used: u64,
 ) -> Prefix
     requires { ⌜ Fits l (now s) ⌝ }
-    requires { ⌜ Valid (l .capacity) (l .pool) (now s) (height (l .capacity) (now s) (root .0)) (entered (root .0) ∷ []) ⌝ }
-    requires { ⌜ first ≡ outOf (l .capacity) (l .pool) (now s) (height (l .capacity) (now s) (root .0)) (root .0) ⌝ }
-    requires { ⌜ (Passed (l .capacity) (l .pool) (now s) (height (l .capacity) (now s) (root .0)) (root .0) []) × (length (now ids) ≤ place → Last (l .capacity) (now s) (root .0) used (reached .0)) ⌝ }
-    ensures answer { λ r. ⌜ namedOf (end .0) (r .answer) ≡ ranOut (end .0) (scan (l .capacity) (now (s .entry)) (end .0) (rest false (l .capacity) (l .pool) (now (s .entry)) (height (l .capacity) (now (s .entry)) (root .0)) (entered (root .0) ∷ [])) (on (drop place (now (ids .entry))) place (reached .0))) ⌝ }
-    ensures edge { λ r. ⌜ Ending (l .capacity) (l .pool) (now (s .entry)) (end .0) (root .0) r ⌝ }
+    requires { ⌜ Valid (shapeOf l) (l .pool) (now s) (height (shapeOf l) (now s) (root .0)) (entered (root .0) ∷ []) ⌝ }
+    requires { ⌜ first ≡ outOf (shapeOf l) (l .pool) (now s) (height (shapeOf l) (now s) (root .0)) (root .0) ⌝ }
+    requires { ⌜ (Passed (shapeOf l) (l .pool) (now s) (height (shapeOf l) (now s) (root .0)) (root .0) []) × (length (now ids) ≤ place → Last (shapeOf l) (now s) (root .0) used (reached .0)) ⌝ }
+    ensures answer { λ r. ⌜ namedOf (end .0) (r .answer) ≡ ranOut (end .0) (scan (shapeOf l) (now (s .entry)) (end .0) (rest false (shapeOf l) (l .pool) (now (s .entry)) (height (shapeOf l) (now (s .entry)) (root .0)) (entered (root .0) ∷ [])) (on (drop place (now (ids .entry))) place (reached .0))) ⌝ }
+    ensures edge { λ r. ⌜ Ending (shapeOf l) (l .pool) (now (s .entry)) (end .0) (root .0) r ⌝ }
 {
     let mut path = Path {
         positions: [Position {
@@ -217,11 +217,11 @@ fn scan_below(
 // The leaves from a root that passed its test, with the first of its child numbers out of range.
 pub fn scan_tree(l: Layout, s: &[u64], root: NodeNo, first: u64, end: RowID, ids: &[u64]) -> Prefix
     requires { ⌜ Fits l (now s) ⌝ }
-    requires { ⌜ (root .0 < l .pool) × (height (l .capacity) (now s) (root .0) ≤ 31) × (passes false (l .capacity) (height (l .capacity) (now s) (root .0)) (nodeAt (l .capacity) (now s) (root .0)) (start (l .capacity) (now s) (root .0)) Open ≡ true) ⌝ }
-    requires { ⌜ first ≡ outOf (l .capacity) (l .pool) (now s) (height (l .capacity) (now s) (root .0)) (root .0) ⌝ }
+    requires { ⌜ (root .0 < l .pool) × (height (shapeOf l) (now s) (root .0) ≤ 31) × (passes false (shapeOf l) (height (shapeOf l) (now s) (root .0)) (nodeAt (shapeOf l) (now s) (root .0)) (start (shapeOf l) (now s) (root .0)) Open ≡ true) ⌝ }
+    requires { ⌜ first ≡ outOf (shapeOf l) (l .pool) (now s) (height (shapeOf l) (now s) (root .0)) (root .0) ⌝ }
     requires { ⌜ 0 < length (now ids) ⌝ }
-    ensures answer { λ r. ⌜ namedOf (end .0) (r .answer) ≡ ranOut (end .0) (scan (l .capacity) (now (s .entry)) (end .0) (visits false (l .capacity) (l .pool) (suc (height (l .capacity) (now (s .entry)) (root .0))) (root .0) (level (l .capacity) (now (s .entry)) (suc (height (l .capacity) (now (s .entry)) (root .0))) (root .0)) (start (l .capacity) (now (s .entry)) (root .0)) Open) (on (now (ids .entry)) 0 0)) ⌝ }
-    ensures edge { λ r. ⌜ Ending (l .capacity) (l .pool) (now (s .entry)) (end .0) (root .0) r ⌝ }
+    ensures answer { λ r. ⌜ namedOf (end .0) (r .answer) ≡ ranOut (end .0) (scan (shapeOf l) (now (s .entry)) (end .0) (visits false (shapeOf l) (l .pool) (suc (height (shapeOf l) (now (s .entry)) (root .0))) (root .0) (level (shapeOf l) (now (s .entry)) (suc (height (shapeOf l) (now (s .entry)) (root .0))) (root .0)) (start (shapeOf l) (now (s .entry)) (root .0)) Open) (on (now (ids .entry)) 0 0)) ⌝ }
+    ensures edge { λ r. ⌜ Ending (shapeOf l) (l .pool) (now (s .entry)) (end .0) (root .0) r ⌝ }
 {
     match scan_node(l, s, root, end, ids, 0, RowID(0)) {
         Progress::Stopped(r) => Prefix {

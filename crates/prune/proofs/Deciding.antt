@@ -8,17 +8,17 @@ use native.Mathlib.Omega.{arith}
 use lib.ListN.{length}
 use lib.Dec.{leb, ltb, eqb}
 use borrow.Author.Tests.{le-leb, lt-leb, eq-eqb, ne-eqb, leb-true}
-use Rattle.model.specs.Words.{pick, capacity, pool, root, freeCount, part, height, count, start, maxHeight}
+use Rattle.model.specs.Words.{lent, Shape, pick, capacity, pool, root, freeCount, part, height, count, start, maxHeight}
 use Rattle.model.specs.Tree.{Open, nodeAt, level, sound, emptyRoot, rootSound}
 use Rattle.model.specs.Reading.{passes, rootTree, visits}
 use Rattle.model.specs.Refusals.{Answer, result, refused, Outcome, refusal}
 use Rattle.model.specs.Prune.{Scan, on, scan, ranOut, pruneScanned, pruneRoot, pruneCheckpointPrefix}
 use Rattle.model.specs.declared.answer.Refusal.{Refusal}
-use Rattle.node.specs.Layout.{opened}
+use Rattle.node.specs.Layout.{shapeOf, opened}
 use Rattle.node.specs.declared.header.StoreHeader.{StoreHeader}
 use Rattle.node.specs.declared.header.Opened.the-variants.{Refused}
 use Rattle.node.proofs.Opened.{IsOpen, is-refused, goes-on}
-use Rattle.model.specs.declared.answer.Refusal.the-variants.{BadParameters, Unsound, Closed, RowLimit, NoRoom, HeightLimit, NoPrefix, StartDiffers, PageDiffers, EndDiffers, ListTooLong, RowBelowPivot, ListTooShort}
+use Rattle.model.proofs.Answers.{is-refusal}
 use Rattle.prefix.specs.Named.{stoppedBy, namedOf, Ended, endingOf, Ending}
 use Rattle.prefix.specs.declared.Prefix.{Prefix}
 use Rattle.prefix.specs.declared.Named.{Named}
@@ -34,12 +34,12 @@ and-true : (a : Bool) → a && true ≡ a
 and-true true = refl
 and-true false = refl
 
-passes-sound : (C : ℕ) (w : List ℕ) (h n r : ℕ) → passes false C h (nodeAt C w n) r Open ≡ sound C h (nodeAt C w n) r Open
+passes-sound : (C : Shape) (w : List ℕ) (h n r : ℕ) → passes false C h (nodeAt C w n) r Open ≡ sound C h (nodeAt C w n) r Open
 unfolding passes
 passes-sound C w h n r = and-true (sound C h (nodeAt C w n) r Open)
 
 -- After 7 ------------------------------------------------------------------------------------------------
-module _ (C P : ℕ) (w : List ℕ) (n s e : ℕ) (ids : List ℕ) where
+module _ (C : Shape) (P : ℕ) (w : List ℕ) (n s e : ℕ) (ids : List ℕ) where
   module _ (full : emptyRoot C w n ≡ false) where
     pub at-high : leb (height C w n) maxHeight ≡ false → pruneAt C P w n s e ids ≡ refuses w (refused 2 n)
     unfolding pruneAt rootSound
@@ -72,15 +72,15 @@ module _ (C P : ℕ) (w : List ℕ) (n s e : ℕ) (ids : List ℕ) where
     empty-start d = rw (empty, eq-eqb s (start C w n) d)
 
 -- The whole call -----------------------------------------------------------------------------------------
-pub not-open : (w : List ℕ) (s e : ℕ) (ids : List ℕ) (r : Refusal) → opened w ≡ Refused r → pruneCheckpointPrefix w s e ids ≡ refuses w (refusal r)
+pub not-open : (w : List ℕ) (s e : ℕ) (ids : List ℕ) (r : Refusal) → opened w ≡ Refused r → pruneCheckpointPrefix lent w s e ids ≡ refuses w (refusal r)
 unfolding pruneCheckpointPrefix
 not-open w s e ids r q = is-refused w r q (refuses w) _
 
 module _ (w : List ℕ) (s e : ℕ) (ids : List ℕ) (h : StoreHeader) (o : IsOpen w h) where
-  pub in-store : InStore (h .layout .capacity) (h .layout .pool) w (h .root .0) (h .«free_count»)
-  in-store = subst (λ (g : StoreHeader). InStore (g .layout .capacity) (g .layout .pool) w (g .root .0) (g .«free_count»)) (sym (o .header-is)) (record { header = o .fits; inside = o .inside; free = refl; free-in = o .free-in })
+  pub in-store : InStore (shapeOf (h .layout)) (h .layout .pool) w (h .root .0) (h .«free_count»)
+  in-store = subst (λ (g : StoreHeader). InStore (shapeOf (g .layout)) (g .layout .pool) w (g .root .0) (g .«free_count»)) (sym (o .header-is)) (record { header = o .fits; inside = o .inside; free = refl; free-in = o .free-in })
 
-  pub no-ids : length ids ≡ 0 → pruneCheckpointPrefix w s e ids ≡ refuses w (refused 7 0)
+  pub no-ids : length ids ≡ 0 → pruneCheckpointPrefix lent w s e ids ≡ refuses w (refused 7 0)
   unfolding pruneCheckpointPrefix
   no-ids z = rw (o .passes, o .not-closed, eq-eqb (length ids) 0 z)
 
@@ -88,31 +88,19 @@ module _ (w : List ℕ) (s e : ℕ) (ids : List ℕ) (h : StoreHeader) (o : IsOp
   or-true true = refl
   or-true false = refl
 
-  pub no-rows : e ≤ s → pruneCheckpointPrefix w s e ids ≡ refuses w (refused 7 0)
+  pub no-rows : e ≤ s → pruneCheckpointPrefix lent w s e ids ≡ refuses w (refused 7 0)
   unfolding pruneCheckpointPrefix
   no-rows l = rw (o .passes, o .not-closed, le-leb e s l, or-true (eqb (length ids) 0))
 
-  pub goes-in : length ids ≢ 0 → s < e → pruneCheckpointPrefix w s e ids ≡ pruneAt (h .layout .capacity) (h .layout .pool) w (h .root .0) s e ids
+  pub goes-in : length ids ≢ 0 → s < e → pruneCheckpointPrefix lent w s e ids ≡ pruneAt (shapeOf (h .layout)) (h .layout .pool) w (h .root .0) s e ids
   unfolding pruneCheckpointPrefix pruneAt
   goes-in z l = rw (o .passes, o .not-closed, ne-eqb (length ids) 0 z, lt-leb e s l, o .header-is)
 
 -- The list against the leaves ----------------------------------------------------------------------------
-module _ (C P : ℕ) (w : List ℕ) (n e : ℕ) where
+module _ (C : Shape) (P : ℕ) (w : List ℕ) (n e : ℕ) where
   stopped-is : (r : Refusal) → pruneScanned C P w n (height C w n) e (rootTree C w n) (stoppedBy (refusal r)) ≡ refuses w (refusal r)
   unfolding pruneScanned
-  stopped-is BadParameters = refl
-  stopped-is (Unsound m) = refl
-  stopped-is Closed = refl
-  stopped-is RowLimit = refl
-  stopped-is (NoRoom m) = refl
-  stopped-is HeightLimit = refl
-  stopped-is NoPrefix = refl
-  stopped-is (StartDiffers s) = refl
-  stopped-is (PageDiffers i) = refl
-  stopped-is (EndDiffers i) = refl
-  stopped-is (ListTooLong k) = refl
-  stopped-is (RowBelowPivot r) = refl
-  stopped-is (ListTooShort k) = refl
+  stopped-is r = let i = is-refusal r in rw (i .is)
 
   pub named-refused : (x : Named) (r : Refusal) → x ≡ Variants.Refused r → pruneScanned C P w n (height C w n) e (rootTree C w n) (namedOf e x) ≡ refuses w (refusal r)
   named-refused x r q = ap (λ (y : Named). pruneScanned C P w n (height C w n) e (rootTree C w n) (namedOf e y)) q ∙ stopped-is r

@@ -8,7 +8,7 @@ use native.Mathlib.Nat.{add-zero}
 use lib.ListN.{getD, length}
 use lib.Dec.{leb, ltb}
 use borrow.Author.Tests.{lt-ltb, le-leb}
-use Rattle.model.specs.Words.{pick, freeCount, freeAll, emptied, part, height, count, start, Header}
+use Rattle.model.specs.Words.{Shape, pick, freeCount, freeAll, emptied, part, height, count, start, Header}
 use Rattle.model.specs.Tree.{Open, Level, level, nodeAt, sound}
 use Rattle.model.specs.Reading.{occ}
 use Rattle.model.specs.Cut.{gone, stays, ifGone, cutPairs, trim, cut, wentPairs, went, trims}
@@ -36,7 +36,7 @@ use Rattle.prune.specs.Writable.{Resettable, Writable}
 use Rattle.prune.proofs.Outside.{copies-outside}
 
 -- the first position of a path is the root
-module _ (C P : ℕ) (w : List ℕ) (root : ℕ) where
+module _ (C : Shape) (P : ℕ) (w : List ℕ) (root : ℕ) where
   top-node : (h n : ℕ) (l : List Position) (d : ℕ) → Above C P w root h n (stack l d) → (d ≡ 0 → n ≡ root) × (0 < d → getD l 0 noPosition .node .0 ≡ root)
   unfolding Above stack
   top-node h n l zero a = (λ _. a, λ z. absurd (omega arith))
@@ -48,7 +48,7 @@ module _ (C P : ℕ) (w : List ℕ) (root : ℕ) where
   first-untouched l zero G z u = absurd (omega arith)
   first-untouched l (suc d) G z u = u .0
 
-module _ (C P : ℕ) (w : List ℕ) (e root f : ℕ) (edge : Path) (R : Rooted C P w root f) (E : Edged C P w e root edge) where
+module _ (C : Shape) (P : ℕ) (w : List ℕ) (e root f : ℕ) (edge : Path) (R : Rooted C P w root f) (E : Edged C P w e root edge) where
   abbrev h : ℕ
   h = height C w root
 

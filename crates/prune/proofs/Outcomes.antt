@@ -6,7 +6,7 @@ use native.Mathlib.Omega.{arith}
 use lib.ListN.{length}
 use lib.Dec.{leb}
 use borrow.Author.Tests.{le-leb, lt-leb}
-use Rattle.model.specs.Words.{pick, freeCount, freeAll, emptied}
+use Rattle.model.specs.Words.{Shape, pick, freeCount, freeAll, emptied}
 use Rattle.model.specs.Refusals.{result, refused, damaged, Outcome}
 use Rattle.model.specs.Prune.{Copies, unsound, copies, trimAll, copyAll}
 use Rattle.model.specs.declared.id.NodeNo.{NodeNo}
@@ -14,7 +14,7 @@ use Rattle.pool.specs.Write.{listed}
 use Rattle.pool.proofs.Listed.{length-listed}
 use Rattle.prune.specs.Found.{resetTo, cutTo}
 
-module _ (C P : ℕ) (w : List ℕ) (n e k : ℕ) (G : List ℕ) where
+module _ (C : Shape) (P : ℕ) (w : List ℕ) (n e k : ℕ) (G : List ℕ) where
   pub reset-full : P < freeCount w + length G → resetTo C P w n e k G ≡ record { answer = damaged; words = w }
   unfolding resetTo
   reset-full l = rw (lt-leb (freeCount w + length G) P l)

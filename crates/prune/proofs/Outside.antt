@@ -6,7 +6,7 @@ use mathlib.Core.Path.{_≡_, refl, sym, ap, _∙_, subst}
 use native.Mathlib.Omega.{arith}
 use lib.Dec.{T, ltb, eqb}
 use borrow.Author.Tests.{ltb-true, ltb-false, eqb-true, eqb-false}
-use Rattle.model.specs.Words.{pick, part, height, count, start, end, row, child}
+use Rattle.model.specs.Words.{Shape, pick, part, height, count, start, end, row, child}
 use Rattle.model.specs.Tree.{Level, Open, level, endSound, sound, nodeAt}
 use Rattle.model.specs.Reading.{occ}
 use Rattle.model.specs.Cut.{trims, kept}
@@ -28,12 +28,12 @@ unfolding before
 by-copies (unsound m) n ns q f = not-unsound m ns q
 by-copies (copies ms) n ns q f = f ms refl (copies-are (n ∷ ms) ns q)
 
-untouched-others : (C : ℕ) (G : List ℕ) (ts : List (ℕ × ℕ)) → Untouched G ts → Untouched G (others ts)
+untouched-others : (C : Shape) (G : List ℕ) (ts : List (ℕ × ℕ)) → Untouched G ts → Untouched G (others ts)
 unfolding Untouched others
 untouched-others C G [] u = tt
 untouched-others C G (t ∷ ts) u = u .1
 
-module _ (C P : ℕ) (w : List ℕ) (e : ℕ) (G : List ℕ) (right : (m : ℕ) → e ≤ start C w m → occ m G ≡ 0) where
+module _ (C : Shape) (P : ℕ) (w : List ℕ) (e : ℕ) (G : List ℕ) (right : (m : ℕ) → e ≤ start C w m → occ m G ≡ 0) where
   -- a node that is trimmed heads its list
   heads : (h m r : ℕ) → ltb r e ≡ true → Untouched G (trims (suc h) e (level C w (suc h) m) r) → occ m G ≡ 0
   unfolding trims Untouched level

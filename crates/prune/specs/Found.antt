@@ -5,7 +5,7 @@ use mathlib.Core.Bool.{true}
 use mathlib.Core.Path.{_≡_}
 use lib.ListN.{length}
 use lib.Dec.{leb, eqb}
-use Rattle.model.specs.Words.{pick, freeCount, freeAll, emptied, part, height, count, start, Header}
+use Rattle.model.specs.Words.{Shape, pick, freeCount, freeAll, emptied, part, height, count, start, Header}
 use Rattle.model.specs.Tree.{Open, nodeAt, sound, emptyRoot, rootSound}
 use Rattle.model.specs.Reading.{rootTree}
 use Rattle.model.specs.Refusals.{Answer, result, refused, damaged, Outcome}
@@ -17,15 +17,15 @@ use Rattle.trim.specs.Picks.{picks}
 use Rattle.reap.specs.Spine.{goneOf}
 
 -- an open store with root n, of which f nodes are free
-pub record InStore (C P : ℕ) (w : List ℕ) (n f : ℕ) : Type 0 where
-  pub header : Header C P w
+pub record InStore (C : Shape) (P : ℕ) (w : List ℕ) (n f : ℕ) : Type 0 where
+  pub header : Header (C .cap) P w
   pub inside : n < P
   pub free : f ≡ freeCount w
   pub free-in : f ≤ P
 
 -- a root that passed its test
-pub record Rooted (C P : ℕ) (w : List ℕ) (root f : ℕ) : Type 0 where
-  pub header : Header C P w
+pub record Rooted (C : Shape) (P : ℕ) (w : List ℕ) (root f : ℕ) : Type 0 where
+  pub header : Header (C .cap) P w
   pub inside : root < P
   pub low : height C w root ≤ 31
   pub good : sound C (height C w root) (nodeAt C w root) (start C w root) Open ≡ true
@@ -36,24 +36,24 @@ pub record Rooted (C P : ℕ) (w : List ℕ) (root f : ℕ) : Type 0 where
 abbrev pub trimsOf : Path → List (ℕ × ℕ)
 trimsOf p = picks (p .positions) (p .depth) 0 (p .depth)
 
-abbrev pub leftOf : ℕ → List ℕ → Path → List ℕ
+abbrev pub leftOf : Shape → List ℕ → Path → List ℕ
 leftOf C w p = goneOf C w (trimsOf p)
 
 -- all entries of its last node go
-abbrev pub AllGo : ℕ → List ℕ → Path → Type 0
+abbrev pub AllGo : Shape → List ℕ → Path → Type 0
 AllGo C w p = count C w (lastOf p .node .0) ≤ lastOf p .index
 
-abbrev pub SomeStay : ℕ → List ℕ → Path → Type 0
+abbrev pub SomeStay : Shape → List ℕ → Path → Type 0
 SomeStay C w p = lastOf p .index < count C w (lastOf p .node .0)
 
 -- k entries and the nodes G go, and nothing is left
-unfoldable pub resetTo : ℕ → ℕ → List ℕ → ℕ → ℕ → ℕ → List ℕ → Outcome
+unfoldable pub resetTo : Shape → ℕ → List ℕ → ℕ → ℕ → ℕ → List ℕ → Outcome
 resetTo C P w n e k G =
     let done : Outcome = record { answer = result (k ∷ length G ∷ 0 ∷ []); words = freeAll C (emptied C w n e) G } in
     pick (leb (freeCount w + length G) P) done (record { answer = damaged; words = w })
 
 -- k entries and the nodes G go, the nodes T are trimmed, and some are copied into the root
-unfoldable pub cutTo : ℕ → ℕ → List ℕ → ℕ → ℕ → ℕ → List (ℕ × ℕ) → List ℕ → Copies → Outcome
+unfoldable pub cutTo : Shape → ℕ → List ℕ → ℕ → ℕ → ℕ → List (ℕ × ℕ) → List ℕ → Copies → Outcome
 cutTo C P w n e k T G (unsound m) = record { answer = refused 2 m; words = w }
 cutTo C P w n e k T G (copies ns) =
     let f = length G + length ns in
@@ -61,11 +61,11 @@ cutTo C P w n e k T G (copies ns) =
     pick (leb (freeCount w + f) P) done (record { answer = damaged; words = w })
 
 -- k entries go, the last of which ends at e
-abbrev pub cutAt : ℕ → ℕ → List ℕ → ℕ → ℕ → ℕ → Outcome
+abbrev pub cutAt : Shape → ℕ → List ℕ → ℕ → ℕ → ℕ → Outcome
 cutAt C P w n e k = let h = height C w n in pruneWith C P w n h e (rootTree C w n) k (rootCopies C P h e (rootTree C w n))
 
 -- what is asked of an open store after 7: "root 2, 8, then leaf by leaf"
-unfoldable pub pruneAt : ℕ → ℕ → List ℕ → ℕ → ℕ → ℕ → List ℕ → Outcome
+unfoldable pub pruneAt : Shape → ℕ → List ℕ → ℕ → ℕ → ℕ → List ℕ → Outcome
 pruneAt C P w n s e ids =
     let refuse : Answer → Outcome = λ a. record { answer = a; words = w } in
     let leaves = pick (emptyRoot C w n) (refuse (refused 11 0)) (pruneRoot C P w n (height C w n) e ids (rootTree C w n)) in

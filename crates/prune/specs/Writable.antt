@@ -3,7 +3,7 @@ use Prim.Native.Nat.{ℕ, _+_, _<_, _≤_}
 use mathlib.Core.List.{List}
 use mathlib.Core.Path.{_≡_}
 use lib.ListN.{length}
-use Rattle.model.specs.Words.{freeCount}
+use Rattle.model.specs.Words.{Shape, freeCount}
 use Rattle.model.specs.Reading.{occ}
 use Rattle.model.specs.declared.id.NodeNo.{NodeNo}
 use Rattle.model.specs.declared.path.Path.{Path}
@@ -14,7 +14,7 @@ use Rattle.reap.specs.Spine.{Outside, Untouched}
 use Rattle.prune.specs.Found.{trimsOf, leftOf}
 
 -- nothing is left, and the root becomes empty
-pub record Resettable (C P : ℕ) (w : List ℕ) (root : ℕ) (edge : Path) : Type 0 where
+pub record Resettable (C : Shape) (P : ℕ) (w : List ℕ) (root : ℕ) (edge : Path) : Type 0 where
   pub low : edge .depth ≤ 32
   pub long : length (edge .positions) ≡ 32
   pub ahead : Ahead edge
@@ -23,7 +23,7 @@ pub record Resettable (C P : ℕ) (w : List ℕ) (root : ℕ) (edge : Path) : Ty
   pub root-stays : occ root (leftOf C w edge) ≡ 0
 
 -- something is left, and k nodes are copied into the root
-pub record Writable (C P : ℕ) (w : List ℕ) (root : ℕ) (edge : Path) (nodes : List NodeNo) (k : ℕ) : Type 0 where
+pub record Writable (C : Shape) (P : ℕ) (w : List ℕ) (root : ℕ) (edge : Path) (nodes : List NodeNo) (k : ℕ) : Type 0 where
   pub reset : Resettable C P w root edge
   pub trims : Trims C P w (trimsOf edge)
   pub few : k ≤ 32

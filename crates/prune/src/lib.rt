@@ -4,7 +4,7 @@ ghost use mathlib.Core.Bool.{false};
 ghost use mathlib.Core.Path.{_≡_};
 ghost use Prim.Native.Nat.{suc, _+_, _-_, _≤_, _<_};
 ghost use lib.ListN.{length};
-ghost use Rattle.model.specs.Words.{height, start};
+ghost use Rattle.model.specs.Words.{lent, height, start};
 ghost use Rattle.model.specs.Reading.{rootTree};
 ghost use Rattle.model.specs.Tree.{emptyRoot};
 ghost use Rattle.model.specs.Refusals.{pruned};
@@ -12,6 +12,7 @@ ghost use Rattle.model.specs.Prune.{copiesFrom, pruneCheckpointPrefix, pruneSca
 ghost use Rattle.edge.specs.Edge.{Edged};
 ghost use Rattle.prefix.specs.Named.{Ending, namedOf};
 ghost use Rattle.prune.specs.Found.{AllGo, InStore, Rooted, SomeStay, cutAt, cutTo, leftOf, pruneAt, resetTo, trimsOf};
+ghost use Rattle.node.specs.Layout.{shapeOf};
 use copies;
 use copies::CopyTest;
 use edge;
@@ -37,11 +38,11 @@ pub mod write;
 
 // All k entries go, and nothing is left.
 fn prune_all(h: StoreHeader, s: &mut [u64], end: RowID, k: u64, edge: Path) -> Pruned
-    requires { ⌜ Rooted (h .layout .capacity) (h .layout .pool) (now s) (h .root .0) (h .«free_count») ⌝ }
-    requires { ⌜ Edged (h .layout .capacity) (h .layout .pool) (now s) (end .0) (h .root .0) edge ⌝ }
-    requires { ⌜ AllGo (h .layout .capacity) (now s) edge ⌝ }
-    ensures answer { λ r. ⌜ pruned r ≡ resetTo (h .layout .capacity) (h .layout .pool) (now (s .entry)) (h .root .0) (end .0) k (leftOf (h .layout .capacity) (now (s .entry)) edge) .answer ⌝ }
-    ensures words { λ r. ⌜ now (s .exit) ≡ resetTo (h .layout .capacity) (h .layout .pool) (now (s .entry)) (h .root .0) (end .0) k (leftOf (h .layout .capacity) (now (s .entry)) edge) .words ⌝ }
+    requires { ⌜ Rooted (shapeOf (h .layout)) (h .layout .pool) (now s) (h .root .0) (h .«free_count») ⌝ }
+    requires { ⌜ Edged (shapeOf (h .layout)) (h .layout .pool) (now s) (end .0) (h .root .0) edge ⌝ }
+    requires { ⌜ AllGo (shapeOf (h .layout)) (now s) edge ⌝ }
+    ensures answer { λ r. ⌜ pruned r ≡ resetTo (shapeOf (h .layout)) (h .layout .pool) (now (s .entry)) (h .root .0) (end .0) k (leftOf (shapeOf (h .layout)) (now (s .entry)) edge) .answer ⌝ }
+    ensures words { λ r. ⌜ now (s .exit) ≡ resetTo (shapeOf (h .layout)) (h .layout .pool) (now (s .entry)) (h .root .0) (end .0) k (leftOf (shapeOf (h .layout)) (now (s .entry)) edge) .words ⌝ }
 {
     let l = h.layout;
     let room = l.pool - h.free_count;
@@ -59,11 +60,11 @@ fn prune_all(h: StoreHeader, s: &mut [u64], end: RowID, k: u64, edge: Path) -> P
 
 // The first k entries go, and some are left.
 fn prune_some(h: StoreHeader, s: &mut [u64], end: RowID, k: u64, edge: Path) -> Pruned
-    requires { ⌜ Rooted (h .layout .capacity) (h .layout .pool) (now s) (h .root .0) (h .«free_count») ⌝ }
-    requires { ⌜ Edged (h .layout .capacity) (h .layout .pool) (now s) (end .0) (h .root .0) edge ⌝ }
-    requires { ⌜ SomeStay (h .layout .capacity) (now s) edge ⌝ }
-    ensures answer { λ r. ⌜ pruned r ≡ cutTo (h .layout .capacity) (h .layout .pool) (now (s .entry)) (h .root .0) (end .0) k (trimsOf edge) (leftOf (h .layout .capacity) (now (s .entry)) edge) (copiesFrom (h .layout .capacity) (h .layout .pool) (height (h .layout .capacity) (now (s .entry)) (h .root .0)) (end .0) (rootTree (h .layout .capacity) (now (s .entry)) (h .root .0)) (start (h .layout .capacity) (now (s .entry)) (h .root .0))) .answer ⌝ }
-    ensures words { λ r. ⌜ now (s .exit) ≡ cutTo (h .layout .capacity) (h .layout .pool) (now (s .entry)) (h .root .0) (end .0) k (trimsOf edge) (leftOf (h .layout .capacity) (now (s .entry)) edge) (copiesFrom (h .layout .capacity) (h .layout .pool) (height (h .layout .capacity) (now (s .entry)) (h .root .0)) (end .0) (rootTree (h .layout .capacity) (now (s .entry)) (h .root .0)) (start (h .layout .capacity) (now (s .entry)) (h .root .0))) .words ⌝ }
+    requires { ⌜ Rooted (shapeOf (h .layout)) (h .layout .pool) (now s) (h .root .0) (h .«free_count») ⌝ }
+    requires { ⌜ Edged (shapeOf (h .layout)) (h .layout .pool) (now s) (end .0) (h .root .0) edge ⌝ }
+    requires { ⌜ SomeStay (shapeOf (h .layout)) (now s) edge ⌝ }
+    ensures answer { λ r. ⌜ pruned r ≡ cutTo (shapeOf (h .layout)) (h .layout .pool) (now (s .entry)) (h .root .0) (end .0) k (trimsOf edge) (leftOf (shapeOf (h .layout)) (now (s .entry)) edge) (copiesFrom (shapeOf (h .layout)) (h .layout .pool) (height (shapeOf (h .layout)) (now (s .entry)) (h .root .0)) (end .0) (rootTree (shapeOf (h .layout)) (now (s .entry)) (h .root .0)) (start (shapeOf (h .layout)) (now (s .entry)) (h .root .0))) .answer ⌝ }
+    ensures words { λ r. ⌜ now (s .exit) ≡ cutTo (shapeOf (h .layout)) (h .layout .pool) (now (s .entry)) (h .root .0) (end .0) k (trimsOf edge) (leftOf (shapeOf (h .layout)) (now (s .entry)) edge) (copiesFrom (shapeOf (h .layout)) (h .layout .pool) (height (shapeOf (h .layout)) (now (s .entry)) (h .root .0)) (end .0) (rootTree (shapeOf (h .layout)) (now (s .entry)) (h .root .0)) (start (shapeOf (h .layout)) (now (s .entry)) (h .root .0))) .words ⌝ }
 {
     let l = h.layout;
     let root = h.root;
@@ -96,10 +97,10 @@ fn prune_some(h: StoreHeader, s: &mut [u64], end: RowID, k: u64, edge: Path) -> 
 
 // The first k entries go, at an edge that was found.
 fn prune_edge(h: StoreHeader, s: &mut [u64], end: RowID, k: u64, edge: Path) -> Pruned
-    requires { ⌜ Rooted (h .layout .capacity) (h .layout .pool) (now s) (h .root .0) (h .«free_count») ⌝ }
-    requires { ⌜ Edged (h .layout .capacity) (h .layout .pool) (now s) (end .0) (h .root .0) edge ⌝ }
-    ensures answer { λ r. ⌜ pruned r ≡ cutAt (h .layout .capacity) (h .layout .pool) (now (s .entry)) (h .root .0) (end .0) k .answer ⌝ }
-    ensures words { λ r. ⌜ now (s .exit) ≡ cutAt (h .layout .capacity) (h .layout .pool) (now (s .entry)) (h .root .0) (end .0) k .words ⌝ }
+    requires { ⌜ Rooted (shapeOf (h .layout)) (h .layout .pool) (now s) (h .root .0) (h .«free_count») ⌝ }
+    requires { ⌜ Edged (shapeOf (h .layout)) (h .layout .pool) (now s) (end .0) (h .root .0) edge ⌝ }
+    ensures answer { λ r. ⌜ pruned r ≡ cutAt (shapeOf (h .layout)) (h .layout .pool) (now (s .entry)) (h .root .0) (end .0) k .answer ⌝ }
+    ensures words { λ r. ⌜ now (s .exit) ≡ cutAt (shapeOf (h .layout)) (h .layout .pool) (now (s .entry)) (h .root .0) (end .0) k .words ⌝ }
 {
     let at = edge.depth - 1;
     let last = edge.positions[at];
@@ -114,10 +115,10 @@ fn prune_edge(h: StoreHeader, s: &mut [u64], end: RowID, k: u64, edge: Path) -> 
 
 // What the list names goes, where it was accepted.
 fn prune_named(h: StoreHeader, s: &mut [u64], end: RowID, prefix: Prefix) -> Pruned
-    requires { ⌜ Rooted (h .layout .capacity) (h .layout .pool) (now s) (h .root .0) (h .«free_count») ⌝ }
-    requires { ⌜ Ending (h .layout .capacity) (h .layout .pool) (now s) (end .0) (h .root .0) prefix ⌝ }
-    ensures answer { λ r. ⌜ pruned r ≡ pruneScanned (h .layout .capacity) (h .layout .pool) (now (s .entry)) (h .root .0) (height (h .layout .capacity) (now (s .entry)) (h .root .0)) (end .0) (rootTree (h .layout .capacity) (now (s .entry)) (h .root .0)) (namedOf (end .0) (prefix .answer)) .answer ⌝ }
-    ensures words { λ r. ⌜ now (s .exit) ≡ pruneScanned (h .layout .capacity) (h .layout .pool) (now (s .entry)) (h .root .0) (height (h .layout .capacity) (now (s .entry)) (h .root .0)) (end .0) (rootTree (h .layout .capacity) (now (s .entry)) (h .root .0)) (namedOf (end .0) (prefix .answer)) .words ⌝ }
+    requires { ⌜ Rooted (shapeOf (h .layout)) (h .layout .pool) (now s) (h .root .0) (h .«free_count») ⌝ }
+    requires { ⌜ Ending (shapeOf (h .layout)) (h .layout .pool) (now s) (end .0) (h .root .0) prefix ⌝ }
+    ensures answer { λ r. ⌜ pruned r ≡ pruneScanned (shapeOf (h .layout)) (h .layout .pool) (now (s .entry)) (h .root .0) (height (shapeOf (h .layout)) (now (s .entry)) (h .root .0)) (end .0) (rootTree (shapeOf (h .layout)) (now (s .entry)) (h .root .0)) (namedOf (end .0) (prefix .answer)) .answer ⌝ }
+    ensures words { λ r. ⌜ now (s .exit) ≡ pruneScanned (shapeOf (h .layout)) (h .layout .pool) (now (s .entry)) (h .root .0) (height (shapeOf (h .layout)) (now (s .entry)) (h .root .0)) (end .0) (rootTree (shapeOf (h .layout)) (now (s .entry)) (h .root .0)) (namedOf (end .0) (prefix .answer)) .words ⌝ }
 {
     let answer = prefix.answer;
     match answer {
@@ -132,11 +133,11 @@ fn prune_named(h: StoreHeader, s: &mut [u64], end: RowID, prefix: Prefix) -> Pru
 
 // On a root that holds entries: its test, its start, then the leaves against the list.
 fn prune_filled(h: StoreHeader, s: &mut [u64], start: RowID, end: RowID, ids: &[u64]) -> Pruned
-    requires { ⌜ InStore (h .layout .capacity) (h .layout .pool) (now s) (h .root .0) (h .«free_count») ⌝ }
+    requires { ⌜ InStore (shapeOf (h .layout)) (h .layout .pool) (now s) (h .root .0) (h .«free_count») ⌝ }
     requires { ⌜ 0 < length (now ids) ⌝ }
-    requires { ⌜ emptyRoot (h .layout .capacity) (now s) (h .root .0) ≡ false ⌝ }
-    ensures answer { λ r. ⌜ pruned r ≡ pruneAt (h .layout .capacity) (h .layout .pool) (now (s .entry)) (h .root .0) (start .0) (end .0) (now (ids .entry)) .answer ⌝ }
-    ensures words { λ r. ⌜ now (s .exit) ≡ pruneAt (h .layout .capacity) (h .layout .pool) (now (s .entry)) (h .root .0) (start .0) (end .0) (now (ids .entry)) .words ⌝ }
+    requires { ⌜ emptyRoot (shapeOf (h .layout)) (now s) (h .root .0) ≡ false ⌝ }
+    ensures answer { λ r. ⌜ pruned r ≡ pruneAt (shapeOf (h .layout)) (h .layout .pool) (now (s .entry)) (h .root .0) (start .0) (end .0) (now (ids .entry)) .answer ⌝ }
+    ensures words { λ r. ⌜ now (s .exit) ≡ pruneAt (shapeOf (h .layout)) (h .layout .pool) (now (s .entry)) (h .root .0) (start .0) (end .0) (now (ids .entry)) .words ⌝ }
 {
     let l = h.layout;
     let root = h.root;
@@ -167,10 +168,10 @@ fn prune_filled(h: StoreHeader, s: &mut [u64], start: RowID, end: RowID, ids: &[
 
 // On an open store, with ids and rows.
 fn prune_open(h: StoreHeader, s: &mut [u64], start: RowID, end: RowID, ids: &[u64]) -> Pruned
-    requires { ⌜ InStore (h .layout .capacity) (h .layout .pool) (now s) (h .root .0) (h .«free_count») ⌝ }
+    requires { ⌜ InStore (shapeOf (h .layout)) (h .layout .pool) (now s) (h .root .0) (h .«free_count») ⌝ }
     requires { ⌜ 0 < length (now ids) ⌝ }
-    ensures answer { λ r. ⌜ pruned r ≡ pruneAt (h .layout .capacity) (h .layout .pool) (now (s .entry)) (h .root .0) (start .0) (end .0) (now (ids .entry)) .answer ⌝ }
-    ensures words { λ r. ⌜ now (s .exit) ≡ pruneAt (h .layout .capacity) (h .layout .pool) (now (s .entry)) (h .root .0) (start .0) (end .0) (now (ids .entry)) .words ⌝ }
+    ensures answer { λ r. ⌜ pruned r ≡ pruneAt (shapeOf (h .layout)) (h .layout .pool) (now (s .entry)) (h .root .0) (start .0) (end .0) (now (ids .entry)) .answer ⌝ }
+    ensures words { λ r. ⌜ now (s .exit) ≡ pruneAt (shapeOf (h .layout)) (h .layout .pool) (now (s .entry)) (h .root .0) (start .0) (end .0) (now (ids .entry)) .words ⌝ }
 {
     let empty = test::is_empty_root(h.layout, &s[..], h.root);
     if !empty {
@@ -185,8 +186,8 @@ fn prune_open(h: StoreHeader, s: &mut [u64], start: RowID, end: RowID, ids: &[u6
 
 // Removes the first entries, whose page ids are given and which end at the given row.
 pub fn prune_checkpoint_prefix(s: &mut [u64], start: RowID, end: RowID, ids: &[u64]) -> Pruned
-    ensures answer { λ r. ⌜ pruned r ≡ pruneCheckpointPrefix (now (s .entry)) (start .0) (end .0) (now (ids .entry)) .answer ⌝ }
-    ensures words { λ r. ⌜ now (s .exit) ≡ pruneCheckpointPrefix (now (s .entry)) (start .0) (end .0) (now (ids .entry)) .words ⌝ }
+    ensures answer { λ r. ⌜ pruned r ≡ pruneCheckpointPrefix lent (now (s .entry)) (start .0) (end .0) (now (ids .entry)) .answer ⌝ }
+    ensures words { λ r. ⌜ now (s .exit) ≡ pruneCheckpointPrefix lent (now (s .entry)) (start .0) (end .0) (now (ids .entry)) .words ⌝ }
 {
     match header::open(&s[..]) {
         Opened::Refused(r) => Pruned::Refused(r),

@@ -8,6 +8,7 @@ ghost use Rattle.model.specs.Prune.{copyAll, trimAll};
 ghost use Rattle.pool.specs.Write.{listed};
 ghost use Rattle.prune.specs.Found.{leftOf, trimsOf};
 ghost use Rattle.prune.specs.Writable.{Resettable, Writable};
+ghost use Rattle.node.specs.Layout.{shapeOf};
 use model::id::NodeNo;
 use model::id::RowID;
 use model::path::Path;
@@ -25,8 +26,8 @@ pub fn write_edge(
     nodes: [NodeNo; 32],
     k: usize,
 )
-    requires { ⌜ Writable (l .capacity) (l .pool) (now s) (root .0) edge nodes k ⌝ }
-    ensures { λ _. ⌜ now (s .exit) ≡ freeAll (l .capacity) (copyAll (l .capacity) (trimAll (l .capacity) (now (s .entry)) (end .0) (trimsOf edge)) (root .0) (listed nodes 0 k)) (leftOf (l .capacity) (now (s .entry)) edge ++ reverse (listed nodes 0 k)) ⌝ }
+    requires { ⌜ Writable (shapeOf l) (l .pool) (now s) (root .0) edge nodes k ⌝ }
+    ensures { λ _. ⌜ now (s .exit) ≡ freeAll (shapeOf l) (copyAll (shapeOf l) (trimAll (shapeOf l) (now (s .entry)) (end .0) (trimsOf edge)) (root .0) (listed nodes 0 k)) (leftOf (shapeOf l) (now (s .entry)) edge ++ reverse (listed nodes 0 k)) ⌝ }
 {
     reap::free_gone(l, s, edge);
     trim::trim_all(l, s, edge, end);
@@ -36,8 +37,8 @@ pub fn write_edge(
 
 // Nothing is left: all below the root is freed, and the root is an empty leaf from the end on.
 pub fn write_reset(l: Layout, s: &mut [u64], root: NodeNo, end: RowID, edge: Path)
-    requires { ⌜ Resettable (l .capacity) (l .pool) (now s) (root .0) edge ⌝ }
-    ensures { λ _. ⌜ now (s .exit) ≡ freeAll (l .capacity) (emptied (l .capacity) (now (s .entry)) (root .0) (end .0)) (leftOf (l .capacity) (now (s .entry)) edge) ⌝ }
+    requires { ⌜ Resettable (shapeOf l) (l .pool) (now s) (root .0) edge ⌝ }
+    ensures { λ _. ⌜ now (s .exit) ≡ freeAll (shapeOf l) (emptied (shapeOf l) (now (s .entry)) (root .0) (end .0)) (leftOf (shapeOf l) (now (s .entry)) edge) ⌝ }
 {
     reap::free_gone(l, s, edge);
     write::empty_node(l, s, root, end);

@@ -8,7 +8,7 @@ use native.Mathlib.Nat.{sub-zero}
 use lib.ListN.{length, length-append, take, take-append-drop, length-drop, drop}
 use lib.Dec.{ltb}
 use borrow.Author.Tests.{ltb-true, ltb-false}
-use Rattle.model.specs.Words.{freeCount, part, height, count, start, row, child, freed, freeAll, Header}
+use Rattle.model.specs.Words.{Shape, freeCount, part, height, count, start, row, child, freed, freeAll, Header}
 use Rattle.model.specs.Tree.{Limit, Level, pairsFrom, level, next, allPairs, AllSound}
 use Rattle.model.specs.Reading.{occ, inPairs, nodes, rootNodes}
 use Rattle.model.proofs.Tests.{by-test}
@@ -22,7 +22,7 @@ use Rattle.reclaim.proofs.Under.{sub-ready}
 use Rattle.formed.proofs.Clean.{sound-narrow}
 use Rattle.reap.specs.Spine.{pairsAt, nodesAt, Ready}
 
-pub free-append : (C : ℕ) (w : List ℕ) (a b : List ℕ) → freeAll C w (a ++ b) ≡ freeAll C (freeAll C w a) b
+pub free-append : (C : Shape) (w : List ℕ) (a b : List ℕ) → freeAll C w (a ++ b) ≡ freeAll C (freeAll C w a) b
 unfolding freeAll
 free-append C w [] b = refl
 free-append C w (n ∷ a) b = free-append C (freed C w n) a b
@@ -33,11 +33,11 @@ take-all [] (suc k) h = refl
 take-all (x ∷ l) zero h = absurd (omega arith)
 take-all (x ∷ l) (suc k) h = ap (λ (z : List ℕ). x ∷ z) (take-all l k (omega arith))
 
-pub record Freed (C P : ℕ) (w : List ℕ) (g n i k : ℕ) (v : List ℕ) : Type 0 where
+pub record Freed (C : Shape) (P : ℕ) (w : List ℕ) (g n i k : ℕ) (v : List ℕ) : Type 0 where
   pub whole : freeAll C w (nodesAt C w (suc g) n i (suc k)) ≡ freeAll C v (nodesAt C v (suc g) n (i + 1) k)
   pub ready : Ready C P v (suc g) n (i + 1) k
 
-module _ (C P : ℕ) (w : List ℕ) (g n i k : ℕ) (d : Ready C P w (suc g) n i (suc k)) where
+module _ (C : Shape) (P : ℕ) (w : List ℕ) (g n i k : ℕ) (d : Ready C P w (suc g) n i (suc k)) where
   c : ℕ
   c = child C w n i
 
@@ -102,7 +102,7 @@ module _ (C P : ℕ) (w : List ℕ) (g n i k : ℕ) (d : Ready C P w (suc g) n i
       record {
         whole = ap (λ (l : List ℕ). freeAll C w l) split ∙ free-append C w ns (nodesAt C w (suc g) n (i + 1) k) ∙ ap (λ (ks : List (ℕ × Level (suc g))). freeAll C v (inPairs (nodes (suc g)) ks)) pairs-same;
         ready = record {
-          header = header-at C P w v (d .header) (free-all-length C w ns);
+          header = header-at (C .cap) P w v (d .header) (free-all-length C w ns);
           inside = d .inside;
           high = sym (free-all-keeps C w ns n apart 0 (omega arith)) ∙ d .high;
           low = d .low;
@@ -117,19 +117,19 @@ module _ (C P : ℕ) (w : List ℕ) (g n i k : ℕ) (d : Ready C P w (suc g) n i
   pub child-freed : (x : ℕ) → freeCount w + x ≡ 65535 → Freed C P w g n i k (freeAll C w (take x (rootNodes C w (child C w n i))))
   child-freed x l = subst (λ (m : List ℕ). Freed C P w g n i k (freeAll C w m)) (sym (ap (take x) child-nodes ∙ take-all ns x (omega (arith, d .room, long)))) freed-child
 
-pub none-left : (C : ℕ) (w : List ℕ) (h n i k : ℕ) → k ≤ i → freeAll C w (nodesAt C w h n i (k - i)) ≡ w
+pub none-left : (C : Shape) (w : List ℕ) (h n i k : ℕ) → k ≤ i → freeAll C w (nodesAt C w h n i (k - i)) ≡ w
 unfolding pairsFrom inPairs freeAll
 none-left C w h n i k l = let e : k - i ≡ 0 = omega arith in rw e
 
 -- pages are no nodes
-pub no-nodes : (C : ℕ) (w : List ℕ) (h n i k : ℕ) → h ≡ 0 → nodesAt C w h n i k ≡ []
+pub no-nodes : (C : Shape) (w : List ℕ) (h n i k : ℕ) → h ≡ 0 → nodesAt C w h n i k ≡ []
 unfolding pairsFrom inPairs nodes
 no-nodes C w zero n i zero z = refl
 no-nodes C w zero n i (suc k) z = no-nodes C w zero n (i + 1) k z
 no-nodes C w (suc h) n i k z = absurd (omega arith)
 
 -- the same in the loop's terms, h being the node's height
-module _ (C P : ℕ) (w : List ℕ) (h n i k : ℕ) (t : 0 < h) (l : i < k) (d : Ready C P w h n i (k - i)) where
+module _ (C : Shape) (P : ℕ) (w : List ℕ) (h n i k : ℕ) (t : 0 < h) (l : i < k) (d : Ready C P w h n i (k - i)) where
   up : h ≡ suc (h - 1)
   up = omega arith
 

@@ -7,7 +7,7 @@ use native.Mathlib.Omega.{arith}
 use native.Mathlib.Nat.{zero-add}
 use lib.ListN.{length, length-append, take}
 use lib.Dec.{T}
-use Rattle.model.specs.Words.{part, height, count, start, row, child, freeAll, freeCount, Header}
+use Rattle.model.specs.Words.{Shape, part, height, count, start, row, child, freeAll, freeCount, Header}
 use Rattle.model.specs.Tree.{Open, Level, nodeAt, level, pairsFrom, sound, AllSound}
 use Rattle.model.specs.Reading.{Visit, Enter, Leave, passes, visits, occ, inPairs, nodes, rootTree, rootNodes}
 use Rattle.model.specs.Paths.{lastOf, entered}
@@ -34,12 +34,12 @@ use Rattle.reclaim.proofs.Freeing.{Freeable, sound-in, goes-in}
 use Rattle.reclaim.proofs.Root.{start-freeing}
 
 -- c nodes are counted; nothing is freed
-pub record Counting (C P : ℕ) (w : List ℕ) (all c : ℕ) (p : Path) : Type 0 where
+pub record Counting (C : Shape) (P : ℕ) (w : List ℕ) (all c : ℕ) (p : Path) : Type 0 where
   pub words : List ℕ
   pub walk : Freeable C P words 0 0 w p
   pub told : all ≡ c + length (lefts (left false C P w p))
 
-module _ (C P : ℕ) (w : List ℕ) (all c : ℕ) (p : Path) (g : Counting C P w all c p) where
+module _ (C : Shape) (P : ℕ) (w : List ℕ) (all c : ℕ) (p : Path) (g : Counting C P w all c p) where
   pub done : p .depth ≤ 0 → c ≡ all
   unfolding lefts
   done z = sym (g .told ∙ rw (left-none false C P w p (omega arith)) (omega arith))
@@ -80,7 +80,7 @@ module _ (C P : ℕ) (w : List ℕ) (all c : ℕ) (p : Path) (g : Counting C P w
         let m = sound-in (g .walk) z e in
         record { words = g .words; walk = goes-in (g .walk) z e .free; told = g .told ∙ ap (λ (vs : List Visit). c + length (lefts vs)) (m .one) }
 
-module _ (C P : ℕ) (w : List ℕ) (n : ℕ) (d : Ready C P w n 0) (s : AllSound C P (suc (height C w n)) (rootTree C w n) (start C w n) Open) where
+module _ (C : Shape) (P : ℕ) (w : List ℕ) (n : ℕ) (d : Ready C P w n 0) (s : AllSound C P (suc (height C w n)) (rootTree C w n) (start C w n) Open) where
   passed : passes false C (height C w n) (nodeAt C w n) (start C w n) Open ≡ true
   unfolding AllSound level passes
   passed = rw (← sound-at (level C w (height C w n)) C w (height C w n) n (start C w n) Open, is-true (sound C (height C w n) (rootTree C w n) (start C w n) Open) (s .1))
@@ -102,13 +102,13 @@ unfolding inPairs
 in-last f [] r x = append-nil (f x)
 in-last f (p ∷ ps) r x = ap (λ (l : List ℕ). f (p .1) ++ l) (in-last f ps r x) ∙ sym (append-assoc (f (p .1)) (inPairs f ps) (f x))
 
-pub record Child (C P : ℕ) (w : List ℕ) (h n i : ℕ) : Type 0 where
+pub record Child (C : Shape) (P : ℕ) (w : List ℕ) (h n i : ℕ) : Type 0 where
   pub ready : Ready C P w (child C w n i) 0
   pub good : AllSound C P (suc (height C w (child C w n i))) (rootTree C w (child C w n i)) (start C w (child C w n i)) Open
   pub few : length (rootNodes C w (child C w n i)) ≤ 65535
   pub adds : length (nodesAt C w h n 0 (i + 1)) ≡ length (nodesAt C w h n 0 i) + length (rootNodes C w (child C w n i))
 
-module _ (C P : ℕ) (w : List ℕ) (hd : Header C P w) (free : freeCount w ≤ 65535) (n k : ℕ) where
+module _ (C : Shape) (P : ℕ) (w : List ℕ) (hd : Header (C .cap) P w) (free : freeCount w ≤ 65535) (n k : ℕ) where
   one-child : (g : ℕ) → Beside C P w (suc g) n k → (i : ℕ) → i < k → Child C P w (suc g) n i
   one-child g b i l =
       let c = child C w n i in
@@ -140,7 +140,7 @@ module _ (C P : ℕ) (w : List ℕ) (hd : Header C P w) (free : freeCount w ≤ 
   no-pairs h = refl
 
 -- The nodes of an edge ---------------------------------------------------------------------------------------
-module _ (C P : ℕ) (w : List ℕ) (n k : ℕ) (T : List (ℕ × ℕ)) (x : ℕ) (s : Spine C P w x ((n, k) ∷ T)) where
+module _ (C : Shape) (P : ℕ) (w : List ℕ) (n k : ℕ) (T : List (ℕ × ℕ)) (x : ℕ) (s : Spine C P w x ((n, k) ∷ T)) where
   beside-of : (h : ℕ) (ts : List (ℕ × ℕ)) → Spine C P w h ((n, k) ∷ ts) → Beside C P w h n k
   unfolding Spine
   beside-of h [] z = z

@@ -7,7 +7,7 @@ use native.Mathlib.Omega.{arith}
 use lib.ListN.{length}
 use lib.Dec.{ltb}
 use borrow.Author.Tests.{lt-ltb, ltb-true, ltb-false}
-use Rattle.model.specs.Words.{part, height, count, start, row}
+use Rattle.model.specs.Words.{Shape, part, height, count, start, row}
 use Rattle.model.specs.Tree.{Limit, Below, Level, level, next, allPairs, AllSound}
 use Rattle.model.specs.Reading.{occ, inPairs, nodes}
 use Rattle.model.proofs.Tests.{by-test}
@@ -23,7 +23,7 @@ use Rattle.edge.specs.Edge.{Meets, trimsUp, Climbed}
 use Rattle.trim.specs.Picks.{picks}
 use Rattle.reap.proofs.Joined.{beside, spine-up, top-height, edge-picks}
 
-module _ (C P : ℕ) (w : List ℕ) where
+module _ (C : Shape) (P : ℕ) (w : List ℕ) where
   gone-parts : (m : ℕ) (t : ℕ × ℕ) (ts : List (ℕ × ℕ)) → occ m (goneOf C w (t ∷ ts)) ≡ occ m (nodesAt C w (height C w (t .0)) (t .0) 0 (t .1)) + occ m (goneOf C w ts)
   unfolding goneOf
   gone-parts m t ts = occ-append m (nodesAt C w (height C w (t .0)) (t .0) 0 (t .1)) (goneOf C w ts)

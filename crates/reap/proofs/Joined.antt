@@ -8,7 +8,7 @@ use native.Mathlib.Nat.{zero-add, add-zero, sub-zero}
 use lib.ListN.{getD, length}
 use lib.Dec.{ltb}
 use borrow.Author.Tests.{lt-ltb, le-ltb, ltb-true, ltb-false}
-use Rattle.model.specs.Words.{pick, part, height, count, start, row, child, maxHeight}
+use Rattle.model.specs.Words.{Shape, pick, part, height, count, start, row, child, maxHeight}
 use Rattle.model.specs.Tree.{Limit, Below, Level, level, allPairs, AllSound}
 use Rattle.model.specs.Reading.{inPairs, nodes}
 use Rattle.model.specs.Paths.{noPosition, stack, lastOf, above}
@@ -38,7 +38,7 @@ unfolding ups
 ups-last l i zero = rw add-zero
 ups-last l i (suc m) = let z : i + 1 + m ≡ i + suc m = omega arith in ap (λ (ts : List (ℕ × ℕ)). (getD l i noPosition .node .0, getD l i noPosition .index - 1) ∷ ts) (ups-last l (i + 1) m ∙ rw z)
 
-trims-ups : (C : ℕ) (w : List ℕ) (l : List Position) (d : ℕ) (T : List (ℕ × ℕ)) → trimsUp C w (stack l d) T ≡ ups l 0 d ++ T
+trims-ups : (C : Shape) (w : List ℕ) (l : List Position) (d : ℕ) (T : List (ℕ × ℕ)) → trimsUp C w (stack l d) T ≡ ups l 0 d ++ T
 unfolding trimsUp stack ups
 trims-ups C w l zero T = refl
 trims-ups C w l (suc d) T =
@@ -52,7 +52,7 @@ picks-ups l d i (suc m) q =
     let z : i + 1 + m ≡ i + suc m = omega arith in
     rw (lt-ltb (i + 1) d (omega arith)) (ap (λ (ts : List (ℕ × ℕ)). (getD l i noPosition .node .0, getD l i noPosition .index - 1) ∷ ts) (picks-ups l d (i + 1) m (omega arith) ∙ rw z))
 
-pub edge-picks : (C : ℕ) (w : List ℕ) (p : Path) → 0 < p .depth → edgeTrims C w p ≡ picks (p .positions) (p .depth) 0 (p .depth)
+pub edge-picks : (C : Shape) (w : List ℕ) (p : Path) → 0 < p .depth → edgeTrims C w p ≡ picks (p .positions) (p .depth) 0 (p .depth)
 edge-picks C w p z =
     let d = p .depth - 1 in
     let e : p .depth ≡ suc d = omega arith in
@@ -61,8 +61,8 @@ edge-picks C w p z =
     ∙ sym (picks-ups (p .positions) (p .depth) 0 d (omega arith)) ∙ ap (picks (p .positions) (p .depth) 0) (sym e)
 
 -- The spine ------------------------------------------------------------------------------------------------
-module _ (C P : ℕ) (w : List ℕ) where
-  few : (h n : ℕ) (up : List Position) → Passed C P w h n up → count C w n ≤ C
+module _ (C : Shape) (P : ℕ) (w : List ℕ) where
+  few : (h n : ℕ) (up : List Position) → Passed C P w h n up → count C w n ≤ C .cap
   unfolding level
   few h n up p = omega (arith, soundly C h (level C w (suc h) n) (start C w n) (bound C w up) (p .good) .many, length-pairs C w (level C w h) n 0 (count C w n))
 
@@ -144,7 +144,7 @@ module _ (C P : ℕ) (w : List ℕ) where
         (s .0, subst (Spine C P w (s .0)) (edge-picks C w p (c .deep)) (s .1))
 
 -- Its nodes can be trimmed where the last of them keeps an entry ------------------------------------------------
-module _ (C P : ℕ) (w : List ℕ) where
+module _ (C : Shape) (P : ℕ) (w : List ℕ) where
   pub own-of : (h : ℕ) (t : ℕ × ℕ) (ts : List (ℕ × ℕ)) → Spine C P w h (t ∷ ts) → Beside C P w h (t .0) (t .1)
   unfolding Spine
   own-of h t [] s = s

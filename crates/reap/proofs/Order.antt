@@ -4,12 +4,11 @@ use mathlib.Core.List.{List, [], _∷_, _++_, reverse}
 use mathlib.Core.Path.{_≡_, refl, sym, ap, _∙_, subst}
 use mathlib.Core.Logic.{_≢_}
 use native.Mathlib.Omega.{arith}
-use lib.ListN.{getD, set, length}
-use lib.Seq.{getD-set-other, set-comm}
-use Rattle.model.specs.Words.{word, base, part, put, nodeSize, height, count, start, end, row, rowPlace, child, childPlace, freeMark, NONE, freed, freeAll, copyFrom, copied, emptied, Header}
+use lib.ListN.{set, length}
+use Rattle.model.specs.Words.{Shape, word, part, put, nodeSize, height, count, start, end, row, rowPlace, child, childPlace, freeMark, NONE, freed, freeAll, copyFrom, copied, emptied, Header}
 use Rattle.model.specs.Reading.{occ}
 use Rattle.model.specs.Prune.{moved, trimmed, trimAll, copyAll}
-use Rattle.model.proofs.Words.{same-node}
+use Rattle.model.proofs.Words.{put-word, put-comm, set-put}
 use Rattle.model.proofs.Frame.{Same}
 use Rattle.model.proofs.Writes.{freed-keeps, not-first, not-rest}
 use Rattle.trim.specs.Picks.{Trims}
@@ -17,39 +16,41 @@ use Rattle.trim.proofs.Turns.{trims-next}
 use Rattle.reap.specs.Spine.{Outside, Untouched}
 use Rattle.reap.proofs.Children.{free-append}
 
-module _ (C n : ℕ) where
+module _ (C : Shape) (n : ℕ) where
   -- the law of one write
-  free-put : (w : List ℕ) (m j x : ℕ) → m ≢ n → j < nodeSize C → freed C (put C w m j x) n ≡ put C (freed C w n) m j x
-  unfolding freed put base
+  free-put : (w : List ℕ) (m j x : ℕ) → m ≢ n → j < nodeSize (C .cap) → freed C (put C w m j x) n ≡ put C (freed C w n) m j x
+  unfolding freed
   free-put w m j x d l =
-      let p = 8 + m * (4 + 2 * C) + j in
-      let a = 8 + n * (4 + 2 * C) + 0 in
-      let b = 8 + n * (4 + 2 * C) + 1 in
-      let q : p ≢ a = λ z. d (same-node C m n j 0 l (omega arith) z) in
-      let r : p ≢ b = λ z. d (same-node C m n j 1 l (omega arith) z) in
-      let h3 : word (set w p x) 3 ≡ word w 3 = getD-set-other w p 3 x 0 (omega arith) in
-      let h4 : word (set w p x) 4 ≡ word w 4 = getD-set-other w p 4 x 0 (omega arith) in
-      rw (h3, h4, set-comm w p a x freeMark q, set-comm (set w a freeMark) p b x (word w 3) r)
-      (ap (λ (v : List ℕ). set v 4 (word w 4 + 1)) (set-comm (set (set w a freeMark) b (word w 3)) p 3 x n (omega arith))
-      ∙ set-comm (set (set (set w a freeMark) b (word w 3)) 3 n) p 4 x (word w 4 + 1) (omega arith))
+      let head = put-word C w m j x 3 (omega arith) in
+      let count = put-word C w m j x 4 (omega arith) in
+      let marked = put C w n 0 freeMark in
+      let linked = put C marked n 1 (word w 3) in
+      rw (
+        head,
+        count,
+        put-comm C w n m 0 j freeMark x d (omega arith) l,
+        put-comm C marked n m 1 j (word w 3) x d (omega arith) l,
+        set-put C linked m j x 3 n (omega arith),
+        set-put C (set linked 3 n) m j x 4 (word w 4 + 1) (omega arith),
+      )
 
-  free-moved : (w : List ℕ) (m k i c : ℕ) → m ≢ n → k + i + c ≤ C → moved C (freed C w n) m k i c ≡ freed C (moved C w m k i c) n
+  free-moved : (w : List ℕ) (m k i c : ℕ) → m ≢ n → k + i + c ≤ C .cap → moved C (freed C w n) m k i c ≡ freed C (moved C w m k i c) n
   unfolding moved
   free-moved w m k i zero d l = refl
   free-moved w m k i (suc c) d l =
       let s = freed-keeps C w n m d in
-      let v = put C w m (rowPlace C i) (row C w m (k + i)) in
-      rw (← s (rowPlace C (k + i)) (omega arith), ← s (childPlace C (k + i)) (omega arith), ← free-put w m (rowPlace C i) (row C w m (k + i)) d (omega arith), ← free-put v m (childPlace C i) (child C w m (k + i)) d (omega arith))
-      (free-moved (put C v m (childPlace C i) (child C w m (k + i))) m k (i + 1) c d (omega arith))
+      let v = put C w m (rowPlace i) (row C w m (k + i)) in
+      rw (← s (rowPlace (k + i)) (omega arith), ← s (childPlace (k + i)) (omega arith), ← free-put w m (rowPlace i) (row C w m (k + i)) d (omega arith), ← free-put v m (childPlace i) (child C w m (k + i)) d (omega arith))
+      (free-moved (put C v m (childPlace i) (child C w m (k + i))) m k (i + 1) c d (omega arith))
 
-  free-trimmed : (w : List ℕ) (m k e : ℕ) → 0 < C → m ≢ n → k ≤ count C w m → count C w m ≤ C → trimmed C (freed C w n) m k e ≡ freed C (trimmed C w m k e) n
+  free-trimmed : (w : List ℕ) (m k e : ℕ) → 0 < C .cap → m ≢ n → k ≤ count C w m → count C w m ≤ C .cap → trimmed C (freed C w n) m k e ≡ freed C (trimmed C w m k e) n
   unfolding trimmed
   free-trimmed w m k e some d l f =
       let a = moved C w m k 0 (count C w m - k) in
       let b = put C a m 1 (count C w m - k) in
-      rw (← freed-keeps C w n m d 1 (omega arith), free-moved w m k 0 (count C w m - k) d (omega arith), free-put (put C b m 2 e) m (rowPlace C 0) e d (omega arith), free-put b m 2 e d (omega arith), free-put a m 1 (count C w m - k) d (omega arith))
+      rw (← freed-keeps C w n m d 1 (omega arith), free-moved w m k 0 (count C w m - k) d (omega arith), free-put (put C b m 2 e) m (rowPlace 0) e d (omega arith), free-put b m 2 e d (omega arith), free-put a m 1 (count C w m - k) d (omega arith))
 
-  free-copy : (w : List ℕ) (a b j c : ℕ) → a ≢ n → b ≢ n → j + c ≤ nodeSize C → copyFrom C (freed C w n) a b j c ≡ freed C (copyFrom C w a b j c) n
+  free-copy : (w : List ℕ) (a b j c : ℕ) → a ≢ n → b ≢ n → j + c ≤ nodeSize (C .cap) → copyFrom C (freed C w n) a b j c ≡ freed C (copyFrom C w a b j c) n
   unfolding copyFrom
   free-copy w a b j zero d f l = refl
   free-copy w a b j (suc c) d f l =
@@ -57,7 +58,7 @@ module _ (C n : ℕ) where
 
   free-copied : (w : List ℕ) (a b : ℕ) → a ≢ n → b ≢ n → copied C (freed C w n) a b ≡ freed C (copied C w a b) n
   unfolding copied
-  free-copied w a b d f = free-copy w a b 0 (nodeSize C) d f (omega arith)
+  free-copied w a b d f = free-copy w a b 0 (nodeSize (C .cap)) d f (omega arith)
 
   free-emptied : (w : List ℕ) (b e : ℕ) → b ≢ n → emptied C (freed C w n) b e ≡ freed C (emptied C w b e) n
   unfolding emptied
@@ -65,8 +66,8 @@ module _ (C n : ℕ) where
       let a = put C w b 0 0 in
       rw (← free-put w b 0 0 d (omega arith), ← free-put a b 1 0 d (omega arith), ← free-put (put C a b 1 0) b 2 e d (omega arith), ← free-put (put C (put C a b 1 0) b 2 e) b 3 NONE d (omega arith))
 
-module _ (C : ℕ) where
-  all-trimmed : (l : List ℕ) (w : List ℕ) (m k e : ℕ) → 0 < C → occ m l ≡ 0 → k ≤ count C w m → count C w m ≤ C → trimmed C (freeAll C w l) m k e ≡ freeAll C (trimmed C w m k e) l
+module _ (C : Shape) where
+  all-trimmed : (l : List ℕ) (w : List ℕ) (m k e : ℕ) → 0 < C .cap → occ m l ≡ 0 → k ≤ count C w m → count C w m ≤ C .cap → trimmed C (freeAll C w l) m k e ≡ freeAll C (trimmed C w m k e) l
   unfolding freeAll
   all-trimmed [] w m k e some z a f = refl
   all-trimmed (n ∷ l) w m k e some z a f =
@@ -84,7 +85,7 @@ module _ (C : ℕ) where
   emptied-after [] w b e z = refl
   emptied-after (n ∷ l) w b e z = emptied-after l (freed C w n) b e (not-rest b n l z) ∙ ap (λ (v : List ℕ). freeAll C v l) (free-emptied C n w b e (not-first b n l z))
 
-  trims-after : (P : ℕ) (l : List ℕ) (w : List ℕ) (e : ℕ) (ts : List (ℕ × ℕ)) → Header C P w → Trims C P w ts → Untouched l ts → trimAll C (freeAll C w l) e ts ≡ freeAll C (trimAll C w e ts) l
+  trims-after : (P : ℕ) (l : List ℕ) (w : List ℕ) (e : ℕ) (ts : List (ℕ × ℕ)) → Header (C .cap) P w → Trims C P w ts → Untouched l ts → trimAll C (freeAll C w l) e ts ≡ freeAll C (trimAll C w e ts) l
   unfolding Trims Untouched trimAll
   trims-after P l w e [] hd t a = refl
   trims-after P l w e (x ∷ ts) hd t a =
@@ -97,7 +98,7 @@ module _ (C : ℕ) where
   copies-after l w b (c ∷ cs) z a = ap (λ (v : List ℕ). copyAll C v b cs) (all-copied l w c b (a .0) z) ∙ copies-after l (copied C w c b) b cs z (a .1)
 
   -- the law: freeing first writes what 01's order writes
-  pub freed-first : (P : ℕ) (w : List ℕ) (n e : ℕ) (ts : List (ℕ × ℕ)) (cs l : List ℕ) → Header C P w → Trims C P w ts → occ n l ≡ 0 → Outside l cs → Untouched l ts
+  pub freed-first : (P : ℕ) (w : List ℕ) (n e : ℕ) (ts : List (ℕ × ℕ)) (cs l : List ℕ) → Header (C .cap) P w → Trims C P w ts → occ n l ≡ 0 → Outside l cs → Untouched l ts
       → freeAll C (copyAll C (trimAll C (freeAll C w l) e ts) n cs) (reverse cs) ≡ freeAll C (copyAll C (trimAll C w e ts) n cs) (l ++ reverse cs)
   freed-first P w n e ts cs l hd t z o u =
       ap (λ (v : List ℕ). freeAll C v (reverse cs)) (ap (λ (v : List ℕ). copyAll C v n cs) (trims-after P l w e ts hd t u) ∙ copies-after l (trimAll C w e ts) n cs z o)

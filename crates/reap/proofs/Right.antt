@@ -9,7 +9,7 @@ use native.Mathlib.Nat.{eq-or-lt-of-le}
 use lib.ListN.{length, length-append}
 use lib.Dec.{ltb}
 use borrow.Author.Tests.{ltb-true, ltb-false}
-use Rattle.model.specs.Words.{part, height, count, start, row, rowPlace, child, freeAll, freeCount, Header}
+use Rattle.model.specs.Words.{Shape, part, height, count, start, row, rowPlace, child, freeAll, freeCount, Header}
 use Rattle.model.specs.Tree.{Limit, Below, Level, pairsFrom, level, next, allPairs, Under, AllSound}
 use Rattle.model.specs.Reading.{occ, inPairs, nodes}
 use Rattle.model.proofs.Tests.{by-test}
@@ -22,7 +22,7 @@ use Rattle.formed.proofs.Clean.{sound-narrow}
 use Rattle.reap.specs.Spine.{pairsAt, nodesAt, Ready, Beside, Spine, goneOf, Reaping}
 use Rattle.reap.proofs.Children.{free-append}
 
-module _ (C P : ℕ) (w : List ℕ) (m : ℕ) where
+module _ (C : Shape) (P : ℕ) (w : List ℕ) (m : ℕ) where
   held-under : (g : ℕ) (x : Level g) (r : ℕ) (b : Limit) → Held C P w g x r b → Under r b
   unfolding Held
   held-under g x r b q = sound-below C P g x r b (q .0)
@@ -46,7 +46,7 @@ module _ (C P : ℕ) (w : List ℕ) (m : ℕ) where
       (λ t. omega (arith, ltb-false 0 (occ m (nodesAt C w h n 0 k)) t))
 
 -- where all nodes that start at x or later stay, an edge that starts there stays
-module _ (C P : ℕ) (w v : List ℕ) (cap : 1 ≤ C) (x : ℕ) (same : (m : ℕ) → x ≤ start C w m → Same C w v m) where
+module _ (C : Shape) (P : ℕ) (w v : List ℕ) (cap : 1 ≤ C .cap) (x : ℕ) (same : (m : ℕ) → x ≤ start C w m → Same C w v m) where
   pairs-stay : (h n k : ℕ) → Beside C P w h n k → x ≤ start C w n → pairsAt C w h n 0 k ≡ pairsAt C v h n 0 k
   unfolding Held
   pairs-stay h n k b l =
@@ -57,7 +57,7 @@ module _ (C P : ℕ) (w v : List ℕ) (cap : 1 ≤ C) (x : ℕ) (same : (m : ℕ
       (λ m p. same m (omega (arith, l, b .first, r, near-held C P w m h (level C w h (child C w n j)) (row C w n j) (q .0) (q .1, (child C w n j, refl)) p .0))))
 
   row-stays : (h n k j : ℕ) → Beside C P w h n k → x ≤ start C w n → j < count C w n → row C w n j ≡ row C v n j
-  row-stays h n k j b l i = same n l (rowPlace C j) (omega (arith, b .narrow))
+  row-stays h n k j b l i = same n l (rowPlace j) (omega (arith, b .narrow))
 
   beside-stays : (h n k : ℕ) → Beside C P w h n k → x ≤ start C w n → Beside C P v h n k
   beside-stays h n k b l =
@@ -69,7 +69,7 @@ module _ (C P : ℕ) (w v : List ℕ) (cap : 1 ≤ C) (x : ℕ) (same : (m : ℕ
         low = b .low;
         narrow = omega (arith, b .narrow, c);
         within = omega (arith, b .within, c);
-        first = sym (s 2 (omega arith)) ∙ b .first ∙ s (rowPlace C 0) (omega (arith, cap));
+        first = sym (s 2 (omega arith)) ∙ b .first ∙ s (rowPlace 0) (omega (arith, cap));
         rise = λ a d y z. (let z₂ : d < count C w n = omega (arith, c) in omega (arith, b .rise a d y z₂, row-stays h n k a b l (omega arith), row-stays h n k d b l z₂));
         bound = b .bound;
         good = subst (λ (ps : List (ℕ × Level h)). allPairs (AllSound C P h) ps (b .bound)) (pairs-stay h n k b l) (b .good);
@@ -101,7 +101,7 @@ module _ (C P : ℕ) (w v : List ℕ) (cap : 1 ≤ C) (x : ℕ) (same : (m : ℕ
       )
 
 -- One node of an edge ----------------------------------------------------------------------------------------
-module _ (C P : ℕ) (w : List ℕ) (n k : ℕ) (T : List (ℕ × ℕ)) (g : Reaping C P w ((n, k) ∷ T)) where
+module _ (C : Shape) (P : ℕ) (w : List ℕ) (n k : ℕ) (T : List (ℕ × ℕ)) (g : Reaping C P w ((n, k) ∷ T)) where
   own-of : (h : ℕ) (ts : List (ℕ × ℕ)) → Spine C P w h ((n, k) ∷ ts) → Beside C P w h n k
   unfolding Spine
   own-of h [] s = s
@@ -145,7 +145,7 @@ module _ (C P : ℕ) (w : List ℕ) (n k : ℕ) (T : List (ℕ × ℕ)) (g : Rea
       let q = after (g .tall) T (g .spine) in (
         free-append C w (nodesAt C w (height C w n) n 0 k) (goneOf C w T) ∙ ap (freeAll C v) (q .1),
         record {
-          header = header-at C P w v (g .header) (free-all-length C w (nodesAt C w (height C w n) n 0 k));
+          header = header-at (C .cap) P w v (g .header) (free-all-length C w (nodesAt C w (height C w n) n 0 k));
           tall = g .tall - 1;
           spine = q .0;
           room = omega (arith, g .room, parts, free-all-count C P w (nodesAt C w (height C w n) n 0 k) (g .header), ap (λ (l : List ℕ). length l) (q .1));

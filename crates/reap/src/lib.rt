@@ -8,7 +8,7 @@ ghost use Rattle.model.specs.Reading.{rootNodes, rootTree};
 ghost use Rattle.model.specs.Tree.{AllSound, Open};
 ghost use Rattle.edge.specs.Edge.{firstNodes};
 ghost use Rattle.reclaim.specs.Ready as Whole;
-ghost use Rattle.node.specs.Layout.{Fits};
+ghost use Rattle.node.specs.Layout.{Fits, shapeOf};
 ghost use Rattle.trim.specs.Picks.{Ahead, picks};
 ghost use Rattle.reap.specs.Spine.{Beside, Ready, Reaping, Spine, goneOf, nodesAt};
 use model::id::NodeNo;
@@ -19,8 +19,8 @@ use walk::turn;
 
 // The first k children of node n, each with all below it; the entries of a leaf lead to no nodes.
 fn free_children(l: Layout, s: &mut [u64], n: NodeNo, k: u64)
-    requires { ⌜ Ready (l .capacity) (l .pool) (now s) (height (l .capacity) (now s) (n .0)) (n .0) 0 k ⌝ }
-    ensures { λ _. ⌜ now (s .exit) ≡ freeAll (l .capacity) (now (s .entry)) (firstNodes (l .capacity) (now (s .entry)) (height (l .capacity) (now (s .entry)) (n .0)) (n .0) k) ⌝ }
+    requires { ⌜ Ready (shapeOf l) (l .pool) (now s) (height (shapeOf l) (now s) (n .0)) (n .0) 0 k ⌝ }
+    ensures { λ _. ⌜ now (s .exit) ≡ freeAll (shapeOf l) (now (s .entry)) (firstNodes (shapeOf l) (now (s .entry)) (height (shapeOf l) (now (s .entry)) (n .0)) (n .0) k) ⌝ }
 {
     let height = l.part(&s[..], n, 0);
     if height == 0 {
@@ -38,8 +38,8 @@ fn free_children(l: Layout, s: &mut [u64], n: NodeNo, k: u64)
 // All that lies to the left of an edge, the top node's children first. On words that were not all read an unread number may
 // equal a freed one, so it goes by positions.
 pub fn free_gone(l: Layout, s: &mut [u64], edge: Path)
-    requires { ⌜ (edge .depth ≤ 32) × (length (edge .positions) ≡ 32) × Ahead edge × Reaping (l .capacity) (l .pool) (now s) (picks (edge .positions) (edge .depth) 0 (edge .depth)) ⌝ }
-    ensures { λ _. ⌜ now (s .exit) ≡ freeAll (l .capacity) (now (s .entry)) (goneOf (l .capacity) (now (s .entry)) (picks (edge .positions) (edge .depth) 0 (edge .depth))) ⌝ }
+    requires { ⌜ (edge .depth ≤ 32) × (length (edge .positions) ≡ 32) × Ahead edge × Reaping (shapeOf l) (l .pool) (now s) (picks (edge .positions) (edge .depth) 0 (edge .depth)) ⌝ }
+    ensures { λ _. ⌜ now (s .exit) ≡ freeAll (shapeOf l) (now (s .entry)) (goneOf (shapeOf l) (now (s .entry)) (picks (edge .positions) (edge .depth) 0 (edge .depth))) ⌝ }
 {
     let depth = edge.depth;
     let mut i: usize = 0;
@@ -55,9 +55,9 @@ pub fn free_gone(l: Layout, s: &mut [u64], edge: Path)
 
 // How many nodes the tree from root has, which is sound.
 fn count_nodes(l: Layout, s: &[u64], root: NodeNo) -> u64
-    requires { ⌜ Whole.Ready (l .capacity) (l .pool) (now s) (root .0) 0 ⌝ }
-    requires { ⌜ AllSound (l .capacity) (l .pool) (suc (height (l .capacity) (now s) (root .0))) (rootTree (l .capacity) (now s) (root .0)) (start (l .capacity) (now s) (root .0)) Open × (length (rootNodes (l .capacity) (now s) (root .0)) ≤ 65535) ⌝ }
-    ensures { λ r. ⌜ r ≡ length (rootNodes (l .capacity) (now (s .entry)) (root .0)) ⌝ }
+    requires { ⌜ Whole.Ready (shapeOf l) (l .pool) (now s) (root .0) 0 ⌝ }
+    requires { ⌜ AllSound (shapeOf l) (l .pool) (suc (height (shapeOf l) (now s) (root .0))) (rootTree (shapeOf l) (now s) (root .0)) (start (shapeOf l) (now s) (root .0)) Open × (length (rootNodes (shapeOf l) (now s) (root .0)) ≤ 65535) ⌝ }
+    ensures { λ r. ⌜ r ≡ length (rootNodes (shapeOf l) (now (s .entry)) (root .0)) ⌝ }
 {
     let mut path = Path {
         positions: [Position {
@@ -96,8 +96,8 @@ fn count_nodes(l: Layout, s: &[u64], root: NodeNo) -> u64
 // How many nodes lie below the first k entries of node n.
 fn count_children(l: Layout, s: &[u64], n: NodeNo, k: u64) -> u64
     requires { ⌜ Fits l (now s) ⌝ }
-    requires { ⌜ (freeCount (now s) ≤ 65535) × Beside (l .capacity) (l .pool) (now s) (height (l .capacity) (now s) (n .0)) (n .0) k ⌝ }
-    ensures is { λ r. ⌜ r ≡ length (nodesAt (l .capacity) (now (s .entry)) (height (l .capacity) (now (s .entry)) (n .0)) (n .0) 0 k) ⌝ }
+    requires { ⌜ (freeCount (now s) ≤ 65535) × Beside (shapeOf l) (l .pool) (now s) (height (shapeOf l) (now s) (n .0)) (n .0) k ⌝ }
+    ensures is { λ r. ⌜ r ≡ length (nodesAt (shapeOf l) (now (s .entry)) (height (shapeOf l) (now (s .entry)) (n .0)) (n .0) 0 k) ⌝ }
     ensures low { λ r. ⌜ r ≤ k * 65535 ⌝ }
 {
     let height = l.part(s, n, 0);
@@ -119,8 +119,8 @@ fn count_children(l: Layout, s: &[u64], n: NodeNo, k: u64) -> u64
 pub fn count_gone(l: Layout, s: &[u64], edge: Path) -> u64
     requires { ⌜ Fits l (now s) ⌝ }
     requires { ⌜ (freeCount (now s) ≤ 65535) × (edge .depth ≤ 32) × (length (edge .positions) ≡ 32) × Ahead edge ⌝ }
-    requires { ⌜ ((x : ℕ) × Spine (l .capacity) (l .pool) (now s) x (picks (edge .positions) (edge .depth) 0 (edge .depth))) ⌝ }
-    ensures { λ r. ⌜ r ≡ length (goneOf (l .capacity) (now (s .entry)) (picks (edge .positions) (edge .depth) 0 (edge .depth))) ⌝ }
+    requires { ⌜ ((x : ℕ) × Spine (shapeOf l) (l .pool) (now s) x (picks (edge .positions) (edge .depth) 0 (edge .depth))) ⌝ }
+    ensures { λ r. ⌜ r ≡ length (goneOf (shapeOf l) (now (s .entry)) (picks (edge .positions) (edge .depth) 0 (edge .depth))) ⌝ }
 {
     let depth = edge.depth;
     let mut sum: u64 = 0;

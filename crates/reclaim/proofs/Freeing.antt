@@ -8,7 +8,7 @@ use lib.ListN.{length, take}
 use lib.Seq.{take-nil}
 use lib.Dec.{T, ltb}
 use borrow.Author.Tests.{ltb-true, ltb-false}
-use Rattle.model.specs.Words.{height, count, row, child, freeCount, Header, freed, freeAll}
+use Rattle.model.specs.Words.{Shape, height, count, row, child, freeCount, Header, freed, freeAll}
 use Rattle.model.specs.Tree.{nodeAt}
 use Rattle.model.specs.Reading.{Visit, Enter, Leave, Bad, passes, occ}
 use Rattle.model.specs.Paths.{lastOf, above, turned}
@@ -30,8 +30,8 @@ use Rattle.reclaim.proofs.Leaving.{Stays, left-stays}
 
 -- What holds at a turn: j of k nodes are freed, and W are the words at the end. What is left has no unsound node and
 -- each node once, and the free count has room.
-pub record Freeable (C P : ℕ) (W : List ℕ) (k j : ℕ) (w : List ℕ) (p : Path) : Type 0 where
-  pub header : Header C P w
+pub record Freeable (C : Shape) (P : ℕ) (W : List ℕ) (k j : ℕ) (w : List ℕ) (p : Path) : Type 0 where
+  pub header : Header (C .cap) P w
   pub valid : ValidPath C P w p
   pub all-clean : T (clean (left false C P w p))
   pub once-each : (m : ℕ) → occ m (lefts (left false C P w p)) ≤ 1
@@ -40,11 +40,11 @@ pub record Freeable (C P : ℕ) (W : List ℕ) (k j : ℕ) (w : List ℕ) (p : P
   pub told : W ≡ freeAll C w (take (k - j) (lefts (left false C P w p)))
 
 -- a turn: from words w and path p to words v and path q, with j freed then
-pub record Goes (C P : ℕ) (W : List ℕ) (k : ℕ) (w : List ℕ) (p : Path) (j : ℕ) (v : List ℕ) (q : Path) : Type 0 where
+pub record Goes (C : Shape) (P : ℕ) (W : List ℕ) (k : ℕ) (w : List ℕ) (p : Path) (j : ℕ) (v : List ℕ) (q : Path) : Type 0 where
   pub free : Freeable C P W k j v q
   pub less : length (left false C P v q) < length (left false C P w p)
 
-module _ {C P : ℕ} {W : List ℕ} {k j : ℕ} {w : List ℕ} {p : Path} (f : Freeable C P W k j w p) where
+module _ {C : Shape} {P : ℕ} {W : List ℕ} {k j : ℕ} {w : List ℕ} {p : Path} (f : Freeable C P W k j w p) where
   -- k nodes are freed
   pub enough : k ≤ j → w ≡ W
   unfolding freeAll
@@ -81,7 +81,7 @@ module _ {C P : ℕ} {W : List ℕ} {k j : ℕ} {w : List ℕ} {p : Path} (f : F
         let i : k - j ≡ suc (k - (j + 1)) = omega arith in
         record {
           free = record {
-            header = header-at C P w v (f .header) (freed-length C w n);
+            header = header-at (C .cap) P w v (f .header) (freed-length C w n);
             valid = s .1;
             all-clean = subst (λ (vs : List Visit). T (clean vs)) one (f .all-clean);
             once-each = λ m. (let o = subst (λ (vs : List Visit). occ m (lefts vs) ≤ 1) one (f .once-each m) in omega (arith, o, occ-cons m n (lefts (left false C P v q))));

@@ -6,7 +6,7 @@ use mathlib.Core.Path.{_≡_, refl, sym, ap, _∙_, subst}
 use native.Mathlib.Omega.{arith}
 use lib.Dec.{T, ltb}
 use borrow.Author.Tests.{ltb-true}
-use Rattle.model.specs.Words.{count, end, row, rowPlace, child}
+use Rattle.model.specs.Words.{Shape, count, end, row, rowPlace, child}
 use Rattle.model.specs.Tree.{Limit, Open, Level, pairsFrom, level, next, last, overPairs, allPairs, AllSound}
 use Rattle.model.specs.Reading.{Visit, Leave, visits, occ, inPairs, nodes}
 use Rattle.model.specs.Paths.{trail}
@@ -20,7 +20,7 @@ use Rattle.formed.proofs.Clean.{sound-narrow, clean, clean-append, clean-all, r
 use Rattle.formed.proofs.Tally.{left as lefts, left-append as lefts-append, left-pairs, left-nodes}
 use Rattle.walk.specs.Left.{bound, rest, Valid, lowest, left, ValidPath}
 
-module _ (C P : ℕ) (w v : List ℕ) where
+module _ (C : Shape) (P : ℕ) (w v : List ℕ) where
   -- the nodes that are left have the same words in w and in v
   unfoldable pub Stays : List Visit → Type 0
   Stays vs = (m : ℕ) → 0 < occ m (lefts vs) → Same C w v m
@@ -34,7 +34,7 @@ module _ (C P : ℕ) (w v : List ℕ) where
   stays-parts n a b z =
       (λ m p. z m (omega (arith, occ-parts m n a b)), z n (omega (arith, occ-parts n n a b, occ-self n)), λ m p. z m (omega (arith, occ-parts m n a b)))
 
-  pairs-stay : (h n i k : ℕ) (b : Limit) → Same C w v n → i + k ≤ C → T (clean (overPairs (visits false C P h n) (pairsFrom C w (level C w h) n i k) b))
+  pairs-stay : (h n i k : ℕ) (b : Limit) → Same C w v n → i + k ≤ C .cap → T (clean (overPairs (visits false C P h n) (pairsFrom C w (level C w h) n i k) b))
       → Stays (overPairs (visits false C P h n) (pairsFrom C w (level C w h) n i k) b) → pairsFrom C w (level C w h) n i k ≡ pairsFrom C v (level C v h) n i k
   unfolding level Stays
   pairs-stay zero n i k b s l c z = same-pairs C w v n s (level C w 0) (level C v 0) i k l (λ j x y. refl)
@@ -65,7 +65,7 @@ module _ (C P : ℕ) (w v : List ℕ) where
       let e : bound C w up ≡ bound C v up = bound-stays (suc h) up (va .above) (q .2) in
       by-test (ltb (p .index) (count C w n))
       (λ t. let l = ltb-true (p .index) (count C w n) t in
-      let r : row C w n (p .index) ≡ row C v n (p .index) = q .1 (rowPlace C (p .index)) (omega (arith, va .narrow)) in
+      let r : row C w n (p .index) ≡ row C v n (p .index) = q .1 (rowPlace (p .index)) (omega (arith, va .narrow)) in
       let d : ltb (p .index) (count C v n) ≡ true = ap (ltb (p .index)) (sym (q .1 1 (omega arith))) ∙ t in
       rw (t, d, r))
       (λ t. let d : ltb (p .index) (count C v n) ≡ false = ap (ltb (p .index)) (sym (q .1 1 (omega arith))) ∙ t in

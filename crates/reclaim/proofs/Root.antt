@@ -8,7 +8,7 @@ use native.Mathlib.Omega.{arith}
 use native.Mathlib.Nat.{sub-zero}
 use lib.ListN.{take}
 use lib.Dec.{T, eqb}
-use Rattle.model.specs.Words.{height, count, start, freeAll}
+use Rattle.model.specs.Words.{Shape, height, count, start, freeAll}
 use Rattle.model.specs.Tree.{Open, pairsFrom, nodeAt, sound, level, AllSound}
 use Rattle.model.specs.Reading.{Visit, Enter, Leave, passes, visits, occ, inPairs, nodes, rootTree, rootNodes}
 use Rattle.model.specs.Paths.{stack, entered}
@@ -25,7 +25,7 @@ use Rattle.reclaim.specs.Ready.{Ready}
 use Rattle.reclaim.proofs.Freeing.{Freeable}
 
 -- what the path at node n has left
-record Begin (C P : ℕ) (w : List ℕ) (n : ℕ) : Type 0 where
+record Begin (C : Shape) (P : ℕ) (w : List ℕ) (n : ℕ) : Type 0 where
   valid : Valid C P w (height C w n) (entered n ∷ [])
   all-clean : T (clean (rest false C P w (height C w n) (entered n ∷ [])))
   are : lefts (rest false C P w (height C w n) (entered n ∷ [])) ≡ rootNodes C w n
@@ -35,7 +35,7 @@ occ-one : (m n : ℕ) → occ m (n ∷ []) ≤ 1
 unfolding occ
 occ-one m n = by-test (eqb m n) (λ t. rw t (omega arith)) (λ t. rw t (omega arith))
 
-module _ (C P : ℕ) (w : List ℕ) (n k : ℕ) (d : Ready C P w n k) where
+module _ (C : Shape) (P : ℕ) (w : List ℕ) (n k : ℕ) (d : Ready C P w n k) where
   abbrev tall : ℕ
   tall = height C w n
 

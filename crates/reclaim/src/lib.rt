@@ -6,6 +6,7 @@ ghost use lib.ListN.{take};
 ghost use Rattle.model.specs.Words.{freeAll};
 ghost use Rattle.model.specs.Reading.{rootNodes};
 ghost use Rattle.reclaim.specs.Ready.{Ready};
+ghost use Rattle.node.specs.Layout.{shapeOf};
 use model::id::NodeNo;
 use model::path::Path;
 use model::path::Position;
@@ -15,8 +16,8 @@ use walk::turn;
 
 // Frees the first k nodes, in postorder, of the tree from root.
 pub fn free_first(l: Layout, s: &mut [u64], root: NodeNo, k: u64)
-    requires { ⌜ Ready (l .capacity) (l .pool) (now s) (root .0) k ⌝ }
-    ensures { λ _. ⌜ now (s .exit) ≡ freeAll (l .capacity) (now (s .entry)) (take k (rootNodes (l .capacity) (now (s .entry)) (root .0))) ⌝ }
+    requires { ⌜ Ready (shapeOf l) (l .pool) (now s) (root .0) k ⌝ }
+    ensures { λ _. ⌜ now (s .exit) ≡ freeAll (shapeOf l) (now (s .entry)) (take k (rootNodes (shapeOf l) (now (s .entry)) (root .0))) ⌝ }
 {
     let mut path = Path {
         positions: [Position {

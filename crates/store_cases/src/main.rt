@@ -12,8 +12,10 @@ use model::answer::Pruned;
 use model::answer::Refusal;
 use model::answer::RowLocation;
 use model::cursor::RowPageIndexMemCursor;
+use model::id::NodeNo;
 use model::id::PageID;
 use model::id::RowID;
+use node::layout::Layout;
 
 fn print_space() {
     let space = [b' '];
@@ -93,26 +95,41 @@ fn damage(s: &mut [u64], i: usize, x: u64) {
     }
 }
 
-// Node n of capacity 2, a full one that leads to child by its second entry.
-fn full_node(s: &mut [u64], n: usize, height: u64, start: u64, second: u64, end: u64, child: u64) {
-    if 100 < n {
+// Word j of node n of capacity 2, damaged.
+fn damage_node(s: &mut [u64], n: u64, j: u64, x: u64) {
+    let l = Layout {
+        capacity: 2,
+        pool: 32,
+    };
+    if 32 < n {
         return;
     }
-    let at = 8 + 8 * n;
-    damage(s, at, height);
-    damage(s, at + 1, 2);
-    damage(s, at + 2, start);
-    damage(s, at + 3, end);
-    damage(s, at + 4, start);
-    damage(s, at + 6, second);
-    damage(s, at + 7, child);
+    if l.node_size() <= j {
+        return;
+    }
+    damage(s, l.place(NodeNo(n), j), x);
+}
+
+// Node n of capacity 2, a full one that leads to child by its second entry.
+fn full_node(s: &mut [u64], n: u64, height: u64, start: u64, second: u64, end: u64, child: u64) {
+    let l = Layout {
+        capacity: 2,
+        pool: 32,
+    };
+    damage_node(s, n, 0, height);
+    damage_node(s, n, 1, 2);
+    damage_node(s, n, 2, start);
+    damage_node(s, n, 3, end);
+    damage_node(s, n, l.row_place(0), start);
+    damage_node(s, n, l.row_place(1), second);
+    damage_node(s, n, l.child_place(1), child);
 }
 
 // Nodes 1 to 31 have their number as their height, and each leads to the one before it.
 fn full_branches(s: &mut [u64]) {
     let mut h: u64 = 1;
     while h < 32 {
-        full_node(s, h as usize, h, 31 - h, 32 - h, u64::MAX, h - 1);
+        full_node(s, h, h, 31 - h, 32 - h, u64::MAX, h - 1);
         h += 1;
     }
 }

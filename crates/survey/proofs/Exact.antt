@@ -8,7 +8,7 @@ use native.Mathlib.Nat.{zero-add, mul-le-mul-left, mul-le-mul-right}
 use lib.ListN.{length}
 use lib.Dec.{T, eqb}
 use borrow.Author.Tests.{lt-ltb, eq-eqb, ne-eqb}
-use Rattle.model.specs.Words.{pick, height, count, start, end, row, child, Header}
+use Rattle.model.specs.Words.{Shape, pick, height, count, start, end, row, child, Header}
 use Rattle.model.specs.Tree.{Limit, Open, pairsFrom, level, next, last, overPairs, allPairs, AllSound}
 use Rattle.model.specs.Reading.{Visit, Enter, Leave, Bad, visits, rootVisits, Fault, clear, at, firstBad, rootEntries, rootNodes}
 use Rattle.model.specs.WellFormed.{SoundRoot, emptyTree, soundTree}
@@ -30,14 +30,14 @@ unfoldable pub faultOf : Survey → Fault
 faultOf (Unsound n) = at (n .0)
 faultOf (Counted k) = clear
 
-pub tally-fault : (C : ℕ) (w : List ℕ) (vs : List Visit) (k : Counts) → faultOf (tally C w vs k) ≡ firstBad vs
+pub tally-fault : (C : Shape) (w : List ℕ) (vs : List Visit) (k : Counts) → faultOf (tally C w vs k) ≡ firstBad vs
 unfolding tally firstBad faultOf
 tally-fault C w [] k = refl
 tally-fault C w (Enter n ∷ vs) k = tally-fault C w vs (counted C w n k)
 tally-fault C w (Leave n ∷ vs) k = tally-fault C w vs k
 tally-fault C w (Bad n ∷ vs) k = refl
 
-module _ (C : ℕ) (w : List ℕ) (vs : List Visit) (k : Counts) where
+module _ (C : Shape) (w : List ℕ) (vs : List Visit) (k : Counts) where
   pub survey-bad : (n : ℕ) → tally C w vs k ≡ Unsound (record { 0 = n }) → firstBad vs ≡ at n
   unfolding faultOf
   survey-bad n e = sym (tally-fault C w vs k) ∙ ap faultOf e
@@ -47,14 +47,14 @@ module _ (C : ℕ) (w : List ℕ) (vs : List Visit) (k : Counts) where
   survey-clear j e = sym (tally-fault C w vs k) ∙ ap faultOf e
 
 -- and back
-pub bad-survey : (C : ℕ) (w : List ℕ) (vs : List Visit) (k : Counts) (n : ℕ) → firstBad vs ≡ at n → tally C w vs k ≡ Unsound (record { 0 = n })
+pub bad-survey : (C : Shape) (w : List ℕ) (vs : List Visit) (k : Counts) (n : ℕ) → firstBad vs ≡ at n → tally C w vs k ≡ Unsound (record { 0 = n })
 unfolding tally firstBad
 bad-survey C w [] k n e = let z : _≡_ {A = ℕ} 0 1 = cc in absurd (omega arith)
 bad-survey C w (Enter m ∷ vs) k n e = bad-survey C w vs (counted C w m k) n e
 bad-survey C w (Leave m ∷ vs) k n e = bad-survey C w vs k n e
 bad-survey C w (Bad m ∷ vs) k n e = let z : m ≡ n = cc in rw z
 
-pub clear-survey : (C : ℕ) (w : List ℕ) (vs : List Visit) (k : Counts) → firstBad vs ≡ clear → (j : Counts) × (tally C w vs k ≡ Counted j)
+pub clear-survey : (C : Shape) (w : List ℕ) (vs : List Visit) (k : Counts) → firstBad vs ≡ clear → (j : Counts) × (tally C w vs k ≡ Counted j)
 unfolding tally firstBad
 clear-survey C w [] k e = (k, refl)
 clear-survey C w (Enter m ∷ vs) k e = clear-survey C w vs (counted C w m k) e
@@ -64,20 +64,20 @@ clear-survey C w (Bad m ∷ vs) k e = let z : _≡_ {A = ℕ} 0 1 = cc in absurd
 -- How much it counts -------------------------------------------------------------------------------------
 
 -- the leaves entered
-unfoldable pub leavesIn : ℕ → List ℕ → List Visit → ℕ
+unfoldable pub leavesIn : Shape → List ℕ → List Visit → ℕ
 leavesIn C w [] = 0
 leavesIn C w (Enter n ∷ vs) = pick (eqb (height C w n) 0) 1 0 + leavesIn C w vs
 leavesIn C w (Leave n ∷ vs) = leavesIn C w vs
 leavesIn C w (Bad n ∷ vs) = leavesIn C w vs
 
-pub leaves-append : (C : ℕ) (w : List ℕ) (a b : List Visit) → leavesIn C w (a ++ b) ≡ leavesIn C w a + leavesIn C w b
+pub leaves-append : (C : Shape) (w : List ℕ) (a b : List Visit) → leavesIn C w (a ++ b) ≡ leavesIn C w a + leavesIn C w b
 unfolding leavesIn
 leaves-append C w [] b = sym (zero-add (leavesIn C w b))
 leaves-append C w (Enter n ∷ a) b = omega (arith, leaves-append C w a b)
 leaves-append C w (Leave n ∷ a) b = leaves-append C w a b
 leaves-append C w (Bad n ∷ a) b = leaves-append C w a b
 
-pub few-leaves : (C : ℕ) (w : List ℕ) (vs : List Visit) → leavesIn C w vs ≤ entered vs
+pub few-leaves : (C : Shape) (w : List ℕ) (vs : List Visit) → leavesIn C w vs ≤ entered vs
 unfolding leavesIn entered
 few-leaves C w [] = omega arith
 few-leaves C w (Enter n ∷ vs) = by-test (eqb (height C w n) 0) (λ t. rw t (omega (arith, few-leaves C w vs))) (λ t. rw t (omega (arith, few-leaves C w vs)))
@@ -91,7 +91,7 @@ more-is k some l = rw (lt-ltb k (2 ^ 32) l)
 counts-is : {a b c d e f : ℕ} → a ≡ b → c ≡ d → e ≡ f → _≡_ {A = Counts} (record { nodes = a; leaves = c; entries = e }) (record { nodes = b; leaves = d; entries = f })
 counts-is p q r = rw (p, q, r)
 
-module _ (C : ℕ) (w : List ℕ) where
+module _ (C : Shape) (w : List ℕ) where
   abbrev plus : Counts → List Visit → Counts
   plus k vs = record { nodes = k .nodes + entered vs; leaves = k .leaves + leavesIn C w vs; entries = k .entries + pagesIn C w vs }
 
@@ -121,7 +121,7 @@ module _ (C : ℕ) (w : List ℕ) where
 
 -- Leaves of a sound tree ---------------------------------------------------------------------------------
 
-module _ (C P : ℕ) (w : List ℕ) where
+module _ (C : Shape) (P : ℕ) (w : List ℕ) where
   leaves-pairs : (h n i k : ℕ) (b : Limit)
       → ((m x r : ℕ) (a : Limit) → AllSound C P (suc h) (level C w (suc h) x) r a → leavesIn C w (visits false C P (suc h) m (level C w (suc h) x) r a) ≡ leafCount h (level C w (suc h) x))
       → allPairs (AllSound C P (suc h)) (pairsFrom C w (level C w (suc h)) n i k) b
@@ -158,12 +158,12 @@ module _ (C P : ℕ) (w : List ℕ) where
     root-leaves (soundTree l g) = ap (leavesIn C w) (tree-visits C P w n l g) ∙ leaves-sound (height C w n) n n (start C w n) Open g
 
     -- the law
-    pub survey-counts : Header C P w → n < P → SoundRoot C P w (height C w n) n
+    pub survey-counts : Header (C .cap) P w → n < P → SoundRoot C P w (height C w n) n
         → tally C w (rootVisits false C P w n) noCounts ≡ Counted (record { nodes = length (rootNodes C w n); leaves = rootLeaves C w n; entries = length (rootEntries C w n) })
     survey-counts hd i s =
         let vs = rootVisits false C P w n in
         let few : length (rootNodes C w n) ≤ P = root-few-nodes C P w (height C w n) n i s in
-        let es : length (rootEntries C w n) ≤ C * length (rootNodes C w n) = root-few-entries C P w (height C w n) n s in
-        let top : C * length (rootNodes C w n) ≤ 4094 * 65535 = omega (arith, mul-le-mul-left C few, mul-le-mul-left C (hd .pool-high), mul-le-mul-right 65535 (hd .cap-high)) in
+        let es : length (rootEntries C w n) ≤ C .cap * length (rootNodes C w n) = root-few-entries C P w (height C w n) n s in
+        let top : C .cap * length (rootNodes C w n) ≤ 4094 * 65535 = omega (arith, mul-le-mul-left (C .cap) few, mul-le-mul-left (C .cap) (hd .pool-high), mul-le-mul-right 65535 (hd .cap-high)) in
         counted-plus C w vs noCounts (clear-clean vs (sound-root C P w n s)) (omega (arith, root-entered C P w n s, few, hd .pool-high)) (omega (arith, few-leaves C w vs, root-entered C P w n s, few, hd .pool-high)) (omega (arith, root-pages C P w n s, es, top))
         ∙ ap Counted (counts-is (omega (arith, root-entered C P w n s)) (omega (arith, root-leaves s)) (omega (arith, root-pages C P w n s)))

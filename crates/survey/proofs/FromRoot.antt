@@ -6,7 +6,7 @@ use mathlib.Core.Path.{_≡_, refl, sym, ap, _∙_}
 use native.Mathlib.Omega.{arith}
 use lib.Dec.{leb, ltb}
 use borrow.Author.Tests.{le-leb}
-use Rattle.model.specs.Words.{pick, part, height, count, start, maxHeight}
+use Rattle.model.specs.Words.{Shape, pick, part, height, count, start, maxHeight}
 use Rattle.model.specs.Tree.{Limit, Open, nodeAt, emptyRoot, level}
 use Rattle.model.specs.Reading.{Visit, Enter, Leave, Bad, passes, visits, rootVisits}
 use Rattle.model.specs.Paths.{entered}
@@ -17,7 +17,7 @@ use Rattle.survey.specs.declared.Counts.{Counts}
 use Rattle.survey.specs.declared.Survey.{Survey}
 use Rattle.survey.specs.declared.Survey.the-variants.{Unsound, Counted}
 
-module _ (ends : Bool) (C P : ℕ) (w : List ℕ) (n : ℕ) (k : Counts) where
+module _ (ends : Bool) (C : Shape) (P : ℕ) (w : List ℕ) (n : ℕ) (k : Counts) where
   pub from-empty : emptyRoot C w n ≡ true → tally C w (rootVisits ends C P w n) k ≡ Counted (counted C w n k)
   unfolding rootVisits tally
   from-empty e = rw e
@@ -40,7 +40,7 @@ module _ (ends : Bool) (C P : ℕ) (w : List ℕ) (n : ℕ) (k : Counts) where
           sym (append-nil (visits ends C P (suc (height C w n)) n (level C w (suc (height C w n)) n) (start C w n) Open)) ∙ child-good ends C P w (height C w n) n n (start C w n) [] inside s in
           rw (e, h, q)
 
-pub root-valid : (ends : Bool) (C P : ℕ) (w : List ℕ) (n : ℕ) → height C w n ≤ maxHeight → n < P → passes ends C (height C w n) (nodeAt C w n) (start C w n) Open ≡ true
+pub root-valid : (ends : Bool) (C : Shape) (P : ℕ) (w : List ℕ) (n : ℕ) → height C w n ≤ maxHeight → n < P → passes ends C (height C w n) (nodeAt C w n) (start C w n) Open ≡ true
     → Valid C P w (height C w n) (entered n ∷ [])
 unfolding Valid
 root-valid ends C P w n h i s = valid-entered ends C P w n (height C w n) (start C w n) Open [] i s (omega arith)

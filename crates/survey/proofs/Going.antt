@@ -8,7 +8,7 @@ use native.Mathlib.Omega.{arith}
 use native.Mathlib.Nat.{eq-or-lt-of-le}
 use lib.ListN.{getD, set, length, length-set, replicate}
 use lib.Seq.{getD-set-same, getD-set-other}
-use Rattle.model.specs.Words.{part, height, count, child}
+use Rattle.model.specs.Words.{Shape, part, height, count, child}
 use Rattle.model.specs.Reading.{Visit, Enter, Leave, Bad, nextRow}
 use Rattle.model.specs.Paths.{noPosition, stack, trail, lastOf, above, turned, entered}
 use Rattle.model.specs.declared.path.Position.{Position}
@@ -28,7 +28,7 @@ use Rattle.survey.specs.declared.Counts.{Counts}
 use Rattle.survey.specs.declared.Survey.{Survey}
 use Rattle.survey.specs.declared.Survey.the-variants.{Unsound, Counted}
 
-module _ (C P : ℕ) (w : List ℕ) where
+module _ (C : Shape) (P : ℕ) (w : List ℕ) where
   -- what stands beside position d
   pub record Beside (l : List Position) (nexts : List Limit) (firsts : List ℕ) (d : ℕ) : Type 0 where
     pub next-is : limitOf (getD nexts d Open) ≡ bound C w (stack l d)
@@ -110,10 +110,10 @@ module _ (C P : ℕ) (w : List ℕ) where
             in-move : Moves ends C P w p (Enter c) (enteredPath p c)
             in-move = move-in ends C P w p (G .valid) z (enteredPath p c) e ranged (limitOf (getD nexts (p .depth - 1) Open)) (B .next-is) c (limitOf b) first W (entered-trail p z (G .long) c deep)
 
-            pub narrow : (c < P) × (count C w c ≤ C)
+            pub narrow : (c < P) × (count C w c ≤ C .cap)
             narrow =
                 let f = passes-fits ends C w (child C w (lastOf p .node .0) (lastOf p .index)) (height C w (lastOf p .node .0) - 1) _ _ (W .good) in
-                subst (λ (x : ℕ). (x < P) × (count C w x ≤ C)) (sym (W .number)) (ranged, f .1)
+                subst (λ (x : ℕ). (x < P) × (count C w x ≤ C .cap)) (sym (W .number)) (ranged, f .1)
 
             -- beside the positions that were there
             old : (d : ℕ) → d < p .depth - 1 → Beside (enteredPath p c .positions) (set nexts (p .depth) b) (set firsts (p .depth) first) d
@@ -169,7 +169,7 @@ module _ (C P : ℕ) (w : List ℕ) where
             less-in = rw (in-move .one) (omega arith)
 
 -- the first turn, at a node just entered
-pub start-going : (C P : ℕ) (w : List ℕ) (ends : Bool) (root first : ℕ) (k : Counts) → Valid C P w (height C w root) (entered root ∷ []) → first ≡ outOf C P w (height C w root) root
+pub start-going : (C : Shape) (P : ℕ) (w : List ℕ) (ends : Bool) (root first : ℕ) (k : Counts) → Valid C P w (height C w root) (entered root ∷ []) → first ≡ outOf C P w (height C w root) root
     → Going C P w ends (tally C w (left ends C P w (rooted root)) k) (rooted root) (replicate 32 Open) (replicate 32 first) k
 unfolding stack bound
 start-going C P w ends root first k v e =

@@ -5,6 +5,7 @@ use mathlib.Core.List.{List, [], _∷_}
 use mathlib.Core.Path.{_≡_, refl, sym, ap, _∙_}
 use native.Mathlib.Omega.{arith}
 use lib.ListN.{getD, set, length}
+use Rattle.model.specs.Words.{Shape}
 use Rattle.model.specs.declared.path.Path.{Path}
 use Rattle.node.specs.Test.{limitOf}
 use Rattle.node.specs.declared.test.Limit.{Limit}
@@ -49,6 +50,6 @@ set-limits (f ∷ fs) (r ∷ rs) zero b = ap (λ (x : Limit). x ∷ limits fs rs
 set-limits (f ∷ fs) (r ∷ rs) (suc d) b = ap (λ (xs : List Limit). limit f r ∷ xs) (set-limits fs rs d b)
 
 -- what is next for the last position
-pub next-at : (C P : ℕ) (w : List ℕ) (ends : Bool) (T : Survey) (p : Path) (fs : List Bool) (rs : List ℕ) (firsts : List ℕ) (k : Counts) → Going C P w ends T p (limits fs rs) firsts k → 0 < p .depth
+pub next-at : (C : Shape) (P : ℕ) (w : List ℕ) (ends : Bool) (T : Survey) (p : Path) (fs : List Bool) (rs : List ℕ) (firsts : List ℕ) (k : Counts) → Going C P w ends T p (limits fs rs) firsts k → 0 < p .depth
     → (b : Limit) → b ≡ limit (getD fs (p .depth - 1) false) (getD rs (p .depth - 1) 0) → limitOf b ≡ limitOf (getD (limits fs rs) (p .depth - 1) Open)
 next-at C P w ends T p fs rs firsts k G z b e = ap limitOf (e ∙ sym (get-limits fs rs (p .depth - 1) (omega (arith, G .long-next, valid-top C P w p z (G .valid) .deep))))

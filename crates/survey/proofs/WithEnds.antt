@@ -7,7 +7,7 @@ use native.Mathlib.Omega.{arith}
 use lib.Dec.{leb, ltb}
 use borrow.Author.Tests.{lt-ltb, le-ltb, ltb-true, ltb-false}
 use lib.ListN.{getD, set, length, replicate}
-use Rattle.model.specs.Words.{pick, part, height, count, start, end, row, child, maxHeight}
+use Rattle.model.specs.Words.{Shape, pick, part, height, count, start, end, row, child, maxHeight}
 use Rattle.model.specs.Tree.{Open, Node, nodeAt, sound, emptyRoot}
 use Rattle.model.specs.Tree as Tree
 use Rattle.model.specs.Reading.{endFits, passes, rootVisits, nextRow}
@@ -32,7 +32,7 @@ use Rattle.survey.proofs.FromRoot.{from-bad, from-good}
 
 -- The test with ends by the one without ----------------------------------------------------------------
 
-module _ (C h : ℕ) (t : Node ℕ) (r : ℕ) (b : Tree.Limit) where
+module _ (C : Shape) (h : ℕ) (t : Node ℕ) (r : ℕ) (b : Tree.Limit) where
   plain : passes false C h t r b ≡ sound C h t r b
   unfolding passes
   plain = and-true (sound C h t r b)
@@ -63,7 +63,7 @@ module _ (P m : ℕ) (t : Survey) where
   with-none l = rw (le-ltb m P l)
 
 -- node n looked at
-module _ (C P : ℕ) (w : List ℕ) (n : ℕ) (b : Tree.Limit) (m : ℕ) where
+module _ (C : Shape) (P : ℕ) (w : List ℕ) (n : ℕ) (b : Tree.Limit) (m : ℕ) where
   pub end-right : endFits (height C w n) b (end C w n) ≡ true → wrongEnd C P w n b m ≡ m
   unfolding wrongEnd
   end-right e = rw e
@@ -79,7 +79,7 @@ module _ (C P : ℕ) (w : List ℕ) (n : ℕ) (b : Tree.Limit) (m : ℕ) where
 
 -- The turns ------------------------------------------------------------------------------------------------
 
-module _ (C P : ℕ) (w : List ℕ) where
+module _ (C : Shape) (P : ℕ) (w : List ℕ) where
   -- E is the answer with ends, m the first wrong end
   pub record Ended (E : Survey) (p : Path) (nexts : List Limit) (firsts : List ℕ) (k : Counts) (m : ℕ) : Type 0 where
     pub seen : m < P → E ≡ Unsound (record { 0 = m })
@@ -182,7 +182,7 @@ module _ (C P : ℕ) (w : List ℕ) where
 
 -- The first turn, and the root -----------------------------------------------------------------------------
 
-pub start-both : (C P : ℕ) (w : List ℕ) (root first : ℕ) (k : Counts) (m : ℕ) → Valid C P w (height C w root) (entered root ∷ []) → first ≡ outOf C P w (height C w root) root
+pub start-both : (C : Shape) (P : ℕ) (w : List ℕ) (root first : ℕ) (k : Counts) (m : ℕ) → Valid C P w (height C w root) (entered root ∷ []) → first ≡ outOf C P w (height C w root) root
     → Both C P w (tally C w (left false C P w (rooted root)) k) (withEnds P m (tally C w (left true C P w (rooted root)) k)) (rooted root) (replicate 32 Limits.Open) (replicate 32 first) k m
 start-both C P w root first k m v e =
     let t : Survey = tally C w (left true C P w (rooted root)) k in
@@ -192,7 +192,7 @@ start-both C P w root first k m v e =
     }
 
 -- a sound root was looked at
-pub from-both : (C P : ℕ) (w : List ℕ) (n : ℕ) (k : Counts) → emptyRoot C w n ≡ false → leb (height C w n) maxHeight ≡ true → n < P → passes false C (height C w n) (nodeAt C w n) (start C w n) Open ≡ true
+pub from-both : (C : Shape) (P : ℕ) (w : List ℕ) (n : ℕ) (k : Counts) → emptyRoot C w n ≡ false → leb (height C w n) maxHeight ≡ true → n < P → passes false C (height C w n) (nodeAt C w n) (start C w n) Open ≡ true
     → tally C w (rootVisits true C P w n) k ≡ withEnds P (wrongEnd C P w n Open P) (tally C w (rest true C P w (height C w n) (entered n ∷ [])) (counted C w n k))
 from-both C P w n k e h i s =
     let t = tally C w (rest true C P w (height C w n) (entered n ∷ [])) (counted C w n k) in

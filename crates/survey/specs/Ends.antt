@@ -2,14 +2,14 @@
 use Prim.Native.Nat.{ℕ}
 use mathlib.Core.List.{List}
 use lib.Dec.{ltb}
-use Rattle.model.specs.Words.{pick, height, end}
+use Rattle.model.specs.Words.{Shape, pick, height, end}
 use Rattle.model.specs.Tree.{Limit}
 use Rattle.model.specs.Reading.{endFits}
 use Rattle.survey.specs.declared.Survey.{Survey}
 use Rattle.survey.specs.declared.Survey.the-variants.{Unsound, Counted}
 
 -- the first branch whose end is wrong, once node n was looked at; m is the one before, P where there is none
-unfoldable pub wrongEnd : ℕ → ℕ → List ℕ → ℕ → Limit → ℕ → ℕ
+unfoldable pub wrongEnd : Shape → ℕ → List ℕ → ℕ → Limit → ℕ → ℕ
 wrongEnd C P w n b m = pick (endFits (height C w n) b (end C w n)) m (pick (ltb m P) m n)
 
 -- what is told where the rest tells t: a wrong end seen comes first

@@ -1,7 +1,7 @@
 -- How many leaves a tree has.
 use Prim.Native.Nat.{ℕ, zero, suc, _+_}
 use mathlib.Core.List.{List, [], _∷_}
-use Rattle.model.specs.Words.{height}
+use Rattle.model.specs.Words.{Shape, height}
 use Rattle.model.specs.Tree.{Level}
 use Rattle.model.specs.Reading.{rootTree}
 
@@ -14,5 +14,5 @@ unfoldable pub leafCount : (h : ℕ) → Level (suc h) → ℕ
 leafCount zero t = 1
 leafCount (suc h) t = sumPairs (leafCount h) (t .pairs)
 
-abbrev pub rootLeaves : ℕ → List ℕ → ℕ → ℕ
+abbrev pub rootLeaves : Shape → List ℕ → ℕ → ℕ
 rootLeaves C w n = leafCount (height C w n) (rootTree C w n)

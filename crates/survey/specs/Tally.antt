@@ -2,7 +2,7 @@
 use Prim.Native.Nat.{ℕ, zero, suc, _+_, _^_}
 use mathlib.Core.List.{List, [], _∷_}
 use lib.Dec.{ltb, eqb}
-use Rattle.model.specs.Words.{pick, part, height, count}
+use Rattle.model.specs.Words.{Shape, pick, part, height, count}
 use Rattle.model.specs.Reading.{Visit, Enter, Leave, Bad}
 use Rattle.survey.specs.declared.Counts.{Counts}
 use Rattle.survey.specs.declared.Survey.{Survey}
@@ -16,14 +16,14 @@ abbrev pub noCounts : Counts
 noCounts = record { nodes = 0; leaves = 0; entries = 0 }
 
 -- node n counted: a leaf with its entries
-unfoldable pub counted : ℕ → List ℕ → ℕ → Counts → Counts
+unfoldable pub counted : Shape → List ℕ → ℕ → Counts → Counts
 counted C w n k =
     pick (eqb (height C w n) 0)
     (record { nodes = more (k .nodes) 1; leaves = more (k .leaves) 1; entries = more (k .entries) (count C w n) })
     (record { nodes = more (k .nodes) 1; leaves = k .leaves; entries = k .entries })
 
 -- over the visits, with the counts so far
-unfoldable pub tally : ℕ → List ℕ → List Visit → Counts → Survey
+unfoldable pub tally : Shape → List ℕ → List Visit → Counts → Survey
 tally C w [] k = Counted k
 tally C w (Enter n ∷ vs) k = tally C w vs (counted C w n k)
 tally C w (Leave n ∷ vs) k = tally C w vs k

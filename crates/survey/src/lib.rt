@@ -8,7 +8,7 @@ ghost use Prim.Native.Nat.{_+_, _-_, _≤_, _<_};
 ghost use Rattle.model.specs.Words.{count, height};
 ghost use Rattle.model.specs.Reading.{rootVisits};
 ghost use Rattle.model.specs.Paths.{entered};
-ghost use Rattle.node.specs.Layout.{Fits};
+ghost use Rattle.node.specs.Layout.{Fits, shapeOf};
 ghost use Rattle.node.specs.Test.{limitOf};
 ghost use Rattle.walk.specs.Left.{Valid, rest};
 ghost use Rattle.walk.specs.Turn.{outOf};
@@ -59,8 +59,8 @@ fn add(k: u64, some: u64) -> u64
 // Node n counted.
 fn count_node(l: Layout, s: &[u64], n: NodeNo, k: Counts) -> Counts
     requires { ⌜ Fits l (now s) ⌝ }
-    requires { ⌜ (n .0 < l .pool) × (count (l .capacity) (now s) (n .0) ≤ l .capacity) ⌝ }
-    ensures { λ r. ⌜ r ≡ counted (l .capacity) (now (s .entry)) (n .0) k ⌝ }
+    requires { ⌜ (n .0 < l .pool) × (count (shapeOf l) (now s) (n .0) ≤ l .capacity) ⌝ }
+    ensures { λ r. ⌜ r ≡ counted (shapeOf l) (now (s .entry)) (n .0) k ⌝ }
 {
     let nodes = add(k.nodes, 1);
     let height = l.part(s, n, 0);
@@ -85,7 +85,7 @@ fn count_node(l: Layout, s: &[u64], n: NodeNo, k: Counts) -> Counts
 fn look_at_end(l: Layout, s: &[u64], n: NodeNo, next: Limit, wrong: NodeNo) -> NodeNo
     requires { ⌜ Fits l (now s) ⌝ }
     requires { ⌜ n .0 < l .pool ⌝ }
-    ensures { λ r. ⌜ r .0 ≡ wrongEnd (l .capacity) (l .pool) (now (s .entry)) (n .0) (limitOf next) (wrong .0) ⌝ }
+    ensures { λ r. ⌜ r .0 ≡ wrongEnd (shapeOf l) (l .pool) (now (s .entry)) (n .0) (limitOf next) (wrong .0) ⌝ }
 {
     let height = l.part(s, n, 0);
     let end = l.part(s, n, 3);
@@ -152,10 +152,10 @@ fn survey_below(
     seen: NodeNo,
 ) -> Surveys
     requires { ⌜ Fits l (now s) ⌝ }
-    requires { ⌜ Valid (l .capacity) (l .pool) (now s) (height (l .capacity) (now s) (root .0)) (entered (root .0) ∷ []) ⌝ }
-    requires { ⌜ first ≡ outOf (l .capacity) (l .pool) (now s) (height (l .capacity) (now s) (root .0)) (root .0) ⌝ }
-    ensures nodes { λ r. ⌜ r .nodes ≡ tally (l .capacity) (now (s .entry)) (rest false (l .capacity) (l .pool) (now (s .entry)) (height (l .capacity) (now (s .entry)) (root .0)) (entered (root .0) ∷ [])) start ⌝ }
-    ensures ends { λ r. ⌜ r .ends ≡ withEnds (l .pool) (seen .0) (tally (l .capacity) (now (s .entry)) (rest true (l .capacity) (l .pool) (now (s .entry)) (height (l .capacity) (now (s .entry)) (root .0)) (entered (root .0) ∷ [])) start) ⌝ }
+    requires { ⌜ Valid (shapeOf l) (l .pool) (now s) (height (shapeOf l) (now s) (root .0)) (entered (root .0) ∷ []) ⌝ }
+    requires { ⌜ first ≡ outOf (shapeOf l) (l .pool) (now s) (height (shapeOf l) (now s) (root .0)) (root .0) ⌝ }
+    ensures nodes { λ r. ⌜ r .nodes ≡ tally (shapeOf l) (now (s .entry)) (rest false (shapeOf l) (l .pool) (now (s .entry)) (height (shapeOf l) (now (s .entry)) (root .0)) (entered (root .0) ∷ [])) start ⌝ }
+    ensures ends { λ r. ⌜ r .ends ≡ withEnds (l .pool) (seen .0) (tally (shapeOf l) (now (s .entry)) (rest true (shapeOf l) (l .pool) (now (s .entry)) (height (shapeOf l) (now (s .entry)) (root .0)) (entered (root .0) ∷ [])) start) ⌝ }
 {
     let mut path = Path {
         positions: [Position {
@@ -214,8 +214,8 @@ fn survey_below(
 pub fn survey_both(l: Layout, s: &[u64], root: NodeNo) -> Surveys
     requires { ⌜ Fits l (now s) ⌝ }
     requires { ⌜ root .0 < l .pool ⌝ }
-    ensures nodes { λ r. ⌜ r .nodes ≡ tally (l .capacity) (now (s .entry)) (rootVisits false (l .capacity) (l .pool) (now (s .entry)) (root .0)) noCounts ⌝ }
-    ensures ends { λ r. ⌜ r .ends ≡ tally (l .capacity) (now (s .entry)) (rootVisits true (l .capacity) (l .pool) (now (s .entry)) (root .0)) noCounts ⌝ }
+    ensures nodes { λ r. ⌜ r .nodes ≡ tally (shapeOf l) (now (s .entry)) (rootVisits false (shapeOf l) (l .pool) (now (s .entry)) (root .0)) noCounts ⌝ }
+    ensures ends { λ r. ⌜ r .ends ≡ tally (shapeOf l) (now (s .entry)) (rootVisits true (shapeOf l) (l .pool) (now (s .entry)) (root .0)) noCounts ⌝ }
 {
     let none = NodeNo(l.pool);
     let zero = Counts {
@@ -246,7 +246,7 @@ pub fn survey_both(l: Layout, s: &[u64], root: NodeNo) -> Surveys
 pub fn survey_tree(l: Layout, s: &[u64], ends: bool, root: NodeNo) -> Survey
     requires { ⌜ Fits l (now s) ⌝ }
     requires { ⌜ root .0 < l .pool ⌝ }
-    ensures { λ r. ⌜ r ≡ tally (l .capacity) (now (s .entry)) (rootVisits ends (l .capacity) (l .pool) (now (s .entry)) (root .0)) noCounts ⌝ }
+    ensures { λ r. ⌜ r ≡ tally (shapeOf l) (now (s .entry)) (rootVisits ends (shapeOf l) (l .pool) (now (s .entry)) (root .0)) noCounts ⌝ }
 {
     let surveys = survey_both(l, s, root);
     if ends {

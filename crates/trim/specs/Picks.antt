@@ -5,7 +5,7 @@ use mathlib.Core.Path.{_≡_}
 use mathlib.Core.Logic.{_≢_}
 use lib.ListN.{getD}
 use lib.Dec.{ltb}
-use Rattle.model.specs.Words.{pick, part, count}
+use Rattle.model.specs.Words.{Shape, pick, part, count}
 use Rattle.model.specs.Paths.{noPosition}
 use Rattle.model.specs.declared.id.NodeNo.{NodeNo}
 use Rattle.model.specs.declared.path.Position.{Position}
@@ -30,13 +30,13 @@ Apart n [] = Unit {0}
 Apart n (t ∷ ts) = (t .0 ≢ n) × Apart n ts
 
 -- nodes that can be trimmed one after the other
-unfoldable pub Trims : ℕ → ℕ → List ℕ → List (ℕ × ℕ) → Type 0
+unfoldable pub Trims : Shape → ℕ → List ℕ → List (ℕ × ℕ) → Type 0
 Trims C P w [] = Unit {0}
 Trims C P w (t ∷ ts) =
     record {
       inside : t .0 < P;
       keeps : t .1 < count C w (t .0);
-      narrow : count C w (t .0) ≤ C;
+      narrow : count C w (t .0) ≤ C .cap;
       apart : Apart (t .0) ts;
       after : Trims C P w ts;
     }

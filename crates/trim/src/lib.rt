@@ -6,7 +6,7 @@ ghost use Prim.Native.Nat.{ℕ, _+_, _-_, _≤_, _<_};
 ghost use lib.ListN.{length};
 ghost use Rattle.model.specs.Words.{count, freeAll, freeCount};
 ghost use Rattle.model.specs.Prune.{copyAll, trimAll, trimmed};
-ghost use Rattle.node.specs.Layout.{Fits};
+ghost use Rattle.node.specs.Layout.{Fits, shapeOf};
 ghost use Rattle.pool.specs.Write.{listed};
 ghost use Rattle.trim.specs.Picks.{AllIn, Ahead, Trims, lostAt, picks};
 use model::id::NodeNo;
@@ -19,8 +19,8 @@ use pool::write;
 // Node n loses its first k entries; what is left starts at the end.
 fn trim_node(l: Layout, s: &mut [u64], n: NodeNo, k: u64, end: RowID)
     requires { ⌜ Fits l (now s) ⌝ }
-    requires { ⌜ (n .0 < l .pool) × (k ≤ count (l .capacity) (now s) (n .0)) × (count (l .capacity) (now s) (n .0) ≤ l .capacity) ⌝ }
-    ensures { λ _. ⌜ now (s .exit) ≡ trimmed (l .capacity) (now (s .entry)) (n .0) k (end .0) ⌝ }
+    requires { ⌜ (n .0 < l .pool) × (k ≤ count (shapeOf l) (now s) (n .0)) × (count (shapeOf l) (now s) (n .0) ≤ l .capacity) ⌝ }
+    ensures { λ _. ⌜ now (s .exit) ≡ trimmed (shapeOf l) (now (s .entry)) (n .0) k (end .0) ⌝ }
 {
     let count = l.part(&s[..], n, 1);
     let left = count - k;
@@ -44,8 +44,8 @@ pub fn lost(depth: usize, i: usize, index: u64) -> u64
 // The nodes of an edge, the top first.
 pub fn trim_all(l: Layout, s: &mut [u64], edge: Path, end: RowID)
     requires { ⌜ Fits l (now s) ⌝ }
-    requires { ⌜ (edge .depth ≤ 32) × (length (edge .positions) ≡ 32) × Ahead edge × Trims (l .capacity) (l .pool) (now s) (picks (edge .positions) (edge .depth) 0 (edge .depth)) ⌝ }
-    ensures { λ _. ⌜ now (s .exit) ≡ trimAll (l .capacity) (now (s .entry)) (end .0) (picks (edge .positions) (edge .depth) 0 (edge .depth)) ⌝ }
+    requires { ⌜ (edge .depth ≤ 32) × (length (edge .positions) ≡ 32) × Ahead edge × Trims (shapeOf l) (l .pool) (now s) (picks (edge .positions) (edge .depth) 0 (edge .depth)) ⌝ }
+    ensures { λ _. ⌜ now (s .exit) ≡ trimAll (shapeOf l) (now (s .entry)) (end .0) (picks (edge .positions) (edge .depth) 0 (edge .depth)) ⌝ }
 {
     let depth = edge.depth;
     let mut i: usize = 0;
@@ -63,7 +63,7 @@ pub fn trim_all(l: Layout, s: &mut [u64], edge: Path, end: RowID)
 pub fn copy_all(l: Layout, s: &mut [u64], root: NodeNo, nodes: [NodeNo; 32], k: usize)
     requires { ⌜ Fits l (now s) ⌝ }
     requires { ⌜ (root .0 < l .pool) × (k ≤ 32) × AllIn (l .pool) nodes k ⌝ }
-    ensures { λ _. ⌜ now (s .exit) ≡ copyAll (l .capacity) (now (s .entry)) (root .0) (listed nodes 0 k) ⌝ }
+    ensures { λ _. ⌜ now (s .exit) ≡ copyAll (shapeOf l) (now (s .entry)) (root .0) (listed nodes 0 k) ⌝ }
 {
     let mut i: usize = 0;
     while i < k {
@@ -77,7 +77,7 @@ pub fn copy_all(l: Layout, s: &mut [u64], root: NodeNo, nodes: [NodeNo; 32], k: 
 pub fn free_copied(l: Layout, s: &mut [u64], nodes: [NodeNo; 32], k: usize)
     requires { ⌜ Fits l (now s) ⌝ }
     requires { ⌜ (k ≤ 32) × AllIn (l .pool) nodes k × (freeCount (now s) + k ≤ 65535) ⌝ }
-    ensures { λ _. ⌜ now (s .exit) ≡ freeAll (l .capacity) (now (s .entry)) (reverse (listed nodes 0 k)) ⌝ }
+    ensures { λ _. ⌜ now (s .exit) ≡ freeAll (shapeOf l) (now (s .entry)) (reverse (listed nodes 0 k)) ⌝ }
 {
     let mut i = k;
     while 0 < i {

@@ -6,7 +6,7 @@ use mathlib.Core.Path.{_≡_, refl, sym, ap, _∙_, subst}
 use native.Mathlib.Omega.{arith}
 use lib.Dec.{ltb, eqb}
 use borrow.Author.Tests.{ltb-true, ltb-false}
-use Rattle.model.specs.Words.{pick, part, height, count, row, child}
+use Rattle.model.specs.Words.{Shape, pick, part, height, count, row, child}
 use Rattle.model.specs.Tree.{Limit, nodeAt}
 use Rattle.model.specs.Reading.{Visit, Enter, Leave, Bad, passes, nextRow}
 use Rattle.model.specs.Paths.{trail, lastOf, above, turned, entered}
@@ -18,7 +18,7 @@ use Rattle.walk.proofs.Rest.{bound-turned}
 use Rattle.walk.proofs.Moves.{leaf-move, end-move, far-move, bad-move, enter-move}
 
 -- a branch with an entry i
-pub branch : (C : ℕ) (w : List ℕ) (n i : ℕ) → hasChild C w n i ≡ true → (0 < height C w n) × (i < count C w n)
+pub branch : (C : Shape) (w : List ℕ) (n i : ℕ) → hasChild C w n i ≡ true → (0 < height C w n) × (i < count C w n)
 unfolding hasChild
 branch C w n i e =
     by-test (ltb 0 (height C w n))
@@ -28,17 +28,17 @@ branch C w n i e =
     (λ u. absurd (false≢true (rw u at e)))
 
 -- what an entering tells
-pub record Went (ends : Bool) (C P : ℕ) (w : List ℕ) (n i : ℕ) (b : Limit) (c : ℕ) (next : Limit) (first : ℕ) : Type 0 where
+pub record Went (ends : Bool) (C : Shape) (P : ℕ) (w : List ℕ) (n i : ℕ) (b : Limit) (c : ℕ) (next : Limit) (first : ℕ) : Type 0 where
   pub number : c ≡ child C w n i
   pub beyond : next ≡ nextRow C w n i b
   pub out : first ≡ outOf C P w (height C w n - 1) (child C w n i)
   pub good : passes ends C (height C w n - 1) (nodeAt C w (child C w n i)) (row C w n i) (nextRow C w n i b) ≡ true
 
-pub record Barred (ends : Bool) (C P : ℕ) (w : List ℕ) (n i : ℕ) (b : Limit) (c : ℕ) : Type 0 where
+pub record Barred (ends : Bool) (C : Shape) (P : ℕ) (w : List ℕ) (n i : ℕ) (b : Limit) (c : ℕ) : Type 0 where
   pub number : c ≡ child C w n i
   pub bad : passes ends C (height C w n - 1) (nodeAt C w (child C w n i)) (row C w n i) (nextRow C w n i b) ≡ false
 
-module _ (ends : Bool) (C P : ℕ) (w : List ℕ) (n i : ℕ) (b : Limit) where
+module _ (ends : Bool) (C : Shape) (P : ℕ) (w : List ℕ) (n i : ℕ) (b : Limit) where
   test : Bool
   test = passes ends C (height C w n - 1) (nodeAt C w (child C w n i)) (row C w n i) (nextRow C w n i b)
 
@@ -58,7 +58,7 @@ module _ (ends : Bool) (C P : ℕ) (w : List ℕ) (n i : ℕ) (b : Limit) where
       (λ t. let q : stops c ≡ stops (child C w n i) = rw t at e in record { number = cc; bad = t })
 
 -- the moves by these
-module _ (ends : Bool) (C P : ℕ) (w : List ℕ) (p : Path) (v : ValidPath C P w p) (z : 0 < p .depth) (q : Path) where
+module _ (ends : Bool) (C : Shape) (P : ℕ) (w : List ℕ) (p : Path) (v : ValidPath C P w p) (z : 0 < p .depth) (q : Path) where
   pub move-out : hasChild C w (lastOf p .node .0) (lastOf p .index) ≡ false → trail q ≡ above p → Moves ends C P w p (Leave (lastOf p .node .0)) q
   unfolding hasChild
   move-out e t =

@@ -4,7 +4,7 @@ use mathlib.Core.List.{List, [], _∷_, _++_}
 use mathlib.Core.Bool.{Bool, true, false}
 use mathlib.Core.Path.{_≡_, refl, sym, ap, _∙_, subst}
 use native.Mathlib.Omega.{arith}
-use Rattle.model.specs.Words.{part, height, count, row, child}
+use Rattle.model.specs.Words.{Shape, part, height, count, row, child}
 use Rattle.model.specs.Tree.{Limit, nodeAt, level}
 use Rattle.model.specs.Reading.{Visit, Enter, Leave, Bad, passes, visits}
 use Rattle.model.specs.Paths.{trail, lastOf, above, turned, entered}
@@ -14,7 +14,7 @@ use Rattle.walk.specs.Left.{bound, rest, Valid, left, ValidPath, Moves}
 use Rattle.walk.proofs.Valid.{Top, valid-top, valid-path}
 use Rattle.walk.proofs.Rest.{rest-leaf, rest-end, rest-child, child-far, child-bad, child-good, left-is, left-top, valid-entered}
 
-module _ (ends : Bool) (C P : ℕ) (w : List ℕ) (p : Path) (v : ValidPath C P w p) (z : 0 < p .depth) (q : Path) where
+module _ (ends : Bool) (C : Shape) (P : ℕ) (w : List ℕ) (p : Path) (v : ValidPath C P w p) (z : 0 < p .depth) (q : Path) where
   moved : (x : Visit) (h : ℕ) (st : List Position) → trail q ≡ st → Valid C P w h st
       → rest ends C P w (height C w (lastOf p .node .0)) (lastOf p ∷ above p) ≡ x ∷ rest ends C P w h st → Moves ends C P w p x q
   moved x h st e u o =

@@ -7,12 +7,12 @@ use native.Mathlib.Omega.{arith}
 use native.Mathlib.Nat.{eq-or-lt-of-le}
 use lib.Dec.{ltb, eqb}
 use borrow.Author.Tests.{ltb-true, ltb-false, ne-eqb}
-use Rattle.model.specs.Words.{pick, part, height, count, child}
+use Rattle.model.specs.Words.{Shape, pick, part, height, count, child}
 use Rattle.model.proofs.Tests.{by-test}
 use Rattle.node.specs.Test.{firstOut}
 use Rattle.walk.specs.Turn.{outOf}
 
-module _ (C P : ℕ) (w : List ℕ) (n : ℕ) where
+module _ (C : Shape) (P : ℕ) (w : List ℕ) (n : ℕ) where
   below : (i k j : ℕ) → i ≤ j → j < firstOut C P w n i k → child C w n j < P
   unfolding firstOut
   below i zero j l h = absurd (omega arith)

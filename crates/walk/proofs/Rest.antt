@@ -7,7 +7,7 @@ use native.Mathlib.Omega.{arith}
 use native.Mathlib.Nat.{sub-zero}
 use lib.Dec.{T, ltb, leb, eqb}
 use borrow.Author.Tests.{lt-ltb, le-ltb, ltb-true, ltb-false}
-use Rattle.model.specs.Words.{pick, part, height, count, end, row, child}
+use Rattle.model.specs.Words.{Shape, pick, part, height, count, end, row, child}
 use Rattle.model.specs.Tree.{Node, Limit, Open, Below, Level, pairsFrom, nodeWith, nodeAt, level, next, last, sound, overPairs}
 use Rattle.model.specs.Reading.{Visit, Enter, Leave, Bad, endFits, passes, visits, nextRow}
 use Rattle.model.specs.Paths.{stack, trail, lastOf, above, turned, entered}
@@ -21,16 +21,16 @@ use Rattle.walk.specs.Left.{bound, rest, Valid, lowest, left, ValidPath}
 use Rattle.walk.proofs.Valid.{Top, valid-top}
 
 -- what is next after entry i of node n
-pub bound-turned : (C : ℕ) (w : List ℕ) (p : Position) (up : List Position) → bound C w (turned p ∷ up) ≡ nextRow C w (p .node .0) (p .index) (bound C w up)
+pub bound-turned : (C : Shape) (w : List ℕ) (p : Position) (up : List Position) → bound C w (turned p ∷ up) ≡ nextRow C w (p .node .0) (p .index) (bound C w up)
 unfolding bound nextRow
 bound-turned C w p up = refl
 
 -- the test of a node does not look at what its numbers lead to
-pub passes-at : {K : Type 0} (ends : Bool) (C : ℕ) (w : List ℕ) (f : ℕ → K) (n h r : ℕ) (b : Limit) → passes ends C h (nodeWith C w f n) r b ≡ passes ends C h (nodeAt C w n) r b
+pub passes-at : {K : Type 0} (ends : Bool) (C : Shape) (w : List ℕ) (f : ℕ → K) (n h r : ℕ) (b : Limit) → passes ends C h (nodeWith C w f n) r b ≡ passes ends C h (nodeAt C w n) r b
 unfolding passes
 passes-at ends C w f n h r b = rw (sound-at f C w h n r b)
 
-module _ (ends : Bool) (C P : ℕ) where
+module _ (ends : Bool) (C : Shape) (P : ℕ) where
   -- pages are not visited
   pages : (m : ℕ) (ps : List (ℕ × ℕ)) (b : Limit) → overPairs (visits ends C P 0 m) ps b ≡ []
   unfolding overPairs visits
@@ -95,13 +95,13 @@ module _ (ends : Bool) (C P : ℕ) where
     left-none p z = rw (stack-none (p .positions) (p .depth) z)
 
 -- a node that passes fits a path
-pub passes-fits : (ends : Bool) (C : ℕ) (w : List ℕ) (n h r : ℕ) (b : Limit) → passes ends C h (nodeAt C w n) r b ≡ true → (height C w n ≡ h) × (count C w n ≤ C)
+pub passes-fits : (ends : Bool) (C : Shape) (w : List ℕ) (n h r : ℕ) (b : Limit) → passes ends C h (nodeAt C w n) r b ≡ true → (height C w n ≡ h) × (count C w n ≤ C .cap)
 unfolding passes
 passes-fits ends C w n h r b s =
     let q = soundly C h (nodeAt C w n) r b (and-l (sound C h (nodeAt C w n) r b) (pick ends (endFits h b (end C w n)) true) (holds (passes ends C h (nodeAt C w n) r b) s)) in
     (q .high, omega (arith, q .many, length-pairs C w (λ (x : ℕ). x) n 0 (count C w n)))
 
-pub valid-entered : (ends : Bool) (C P : ℕ) (w : List ℕ) (n g r : ℕ) (b : Limit) (st : List Position) → n < P → passes ends C g (nodeAt C w n) r b ≡ true → Valid C P w (suc g) st
+pub valid-entered : (ends : Bool) (C : Shape) (P : ℕ) (w : List ℕ) (n g r : ℕ) (b : Limit) (st : List Position) → n < P → passes ends C g (nodeAt C w n) r b ≡ true → Valid C P w (suc g) st
     → Valid C P w g (entered n ∷ st)
 unfolding Valid
 valid-entered ends C P w n g r b st i s v =

@@ -6,7 +6,7 @@ use mathlib.Core.Path.{_≡_, refl, sym, ap, _∙_}
 use native.Mathlib.Omega.{arith}
 use lib.Dec.{ltb, eqb}
 use borrow.Author.Tests.{lt-ltb, le-ltb, eq-eqb, ne-eqb}
-use Rattle.model.specs.Words.{pick, part, height, count, end, row, child, NONE}
+use Rattle.model.specs.Words.{Shape, pick, part, height, count, end, row, child, NONE}
 use Rattle.model.specs.Tree.{Limit, Open, Below, nodeAt, sound}
 use Rattle.model.specs.Reading.{endFits, passes, nextRow}
 use Rattle.model.proofs.Tests.{by-test}
@@ -35,7 +35,7 @@ unfolding endFits
 ends-below zero r e z q = absurd (z refl)
 ends-below (suc h) r e z q = rw (ne-eqb e NONE q)
 
-module _ (C P : ℕ) (w : List ℕ) (n h r : ℕ) (b : Limit) where
+module _ (C : Shape) (P : ℕ) (w : List ℕ) (n h r : ℕ) (b : Limit) where
   pub pass-plain : passTest false C P w n h r b ≡ nodeTest C P w n h r b
   unfolding passTest passes nodeTest outOf
   pass-plain = rw (and-true (sound C h (nodeAt C w n) r b))
@@ -48,7 +48,7 @@ module _ (C P : ℕ) (w : List ℕ) (n h r : ℕ) (b : Limit) where
   unfolding passTest passes
   pass-not e = rw (e, and-false (sound C h (nodeAt C w n) r b))
 
-module _ (C : ℕ) (w : List ℕ) (n i : ℕ) where
+module _ (C : Shape) (w : List ℕ) (n i : ℕ) where
   pub no-child : height C w n ≡ 0 → hasChild C w n i ≡ false
   unfolding hasChild
   no-child z = rw z
@@ -66,7 +66,7 @@ module _ (C : ℕ) (w : List ℕ) (n i : ℕ) where
   next-beyond b l = rw (le-ltb (i + 1) (count C w n) l)
 
 -- what the test of child i of branch n says
-module _ (ends : Bool) (C P : ℕ) (w : List ℕ) (n i : ℕ) (b : Limit) where
+module _ (ends : Bool) (C : Shape) (P : ℕ) (w : List ℕ) (n i : ℕ) (b : Limit) where
   abbrev pub tested : NodeTest
   tested = passTest ends C P w (child C w n i) (height C w n - 1) (row C w n i) (nextRow C w n i b)
 
@@ -85,7 +85,7 @@ module _ (ends : Bool) (C P : ℕ) (w : List ℕ) (n i : ℕ) (b : Limit) where
       (λ t. rw t)
 
 -- what the test of a node says of it
-module _ (ends : Bool) (C P : ℕ) (w : List ℕ) (n h r : ℕ) (b : Limit) where
+module _ (ends : Bool) (C : Shape) (P : ℕ) (w : List ℕ) (n h r : ℕ) (b : Limit) where
   pub pass-sound : (first : ℕ) → passTest ends C P w n h r b ≡ Sound first → (passes ends C h (nodeAt C w n) r b ≡ true) × (first ≡ outOf C P w h n)
   unfolding passTest
   pass-sound first e =

@@ -5,7 +5,7 @@ use mathlib.Core.Path.{_≡_, refl, sym, subst}
 use native.Mathlib.Omega.{arith}
 use lib.ListN.{getD}
 use lib.Dec.{ltb}
-use Rattle.model.specs.Words.{pick, part, height, count, row}
+use Rattle.model.specs.Words.{Shape, pick, part, height, count, row}
 use Rattle.model.specs.Tree.{Limit, Open, Below}
 use Rattle.model.specs.Paths.{noPosition, stack, trail, lastOf, above}
 use Rattle.model.specs.declared.path.Position.{Position}
@@ -13,7 +13,7 @@ use Rattle.model.specs.declared.path.Path.{Path}
 use Rattle.model.proofs.Paths.{stack-pop, stack-none}
 use Rattle.walk.specs.Left.{bound, Valid, lowest, ValidPath}
 
-module _ (C P : ℕ) (w : List ℕ) where
+module _ (C : Shape) (P : ℕ) (w : List ℕ) where
   pub valid-depth : (l : List Position) (d h : ℕ) → Valid C P w h (stack l d) → h + d ≤ 32
   unfolding Valid stack
   valid-depth l zero h v = omega arith
@@ -24,7 +24,7 @@ module _ (C P : ℕ) (w : List ℕ) where
     pub inside : getD l (d - 1) noPosition .node .0 < P
     pub high : height C w (getD l (d - 1) noPosition .node .0) ≡ h
     pub within : getD l (d - 1) noPosition .index ≤ count C w (getD l (d - 1) noPosition .node .0)
-    pub narrow : count C w (getD l (d - 1) noPosition .node .0) ≤ C
+    pub narrow : count C w (getD l (d - 1) noPosition .node .0) ≤ C .cap
     pub over : Valid C P w (suc h) (stack l (d - 1))
     pub deep : h + d ≤ 32
 
@@ -50,12 +50,12 @@ module _ (C P : ℕ) (w : List ℕ) where
       top (p .positions) (p .depth) (height C w (lastOf p .node .0)) z
       (subst (λ (st : List Position). Valid C P w (lowest C w st) (trail p)) (stack-pop (p .positions) (p .depth) z) v)
 
-pub bound-pop : (C : ℕ) (w : List ℕ) (l : List Position) (d : ℕ) → 0 < d
+pub bound-pop : (C : Shape) (w : List ℕ) (l : List Position) (d : ℕ) → 0 < d
     → bound C w (stack l d)
     ≡ pick (ltb (getD l (d - 1) noPosition .index) (count C w (getD l (d - 1) noPosition .node .0))) (Below (row C w (getD l (d - 1) noPosition .node .0) (getD l (d - 1) noPosition .index))) (bound C w (stack l (d - 1)))
 unfolding bound
 bound-pop C w l d z = rw (stack-pop l d z)
 
-pub bound-none : (C : ℕ) (w : List ℕ) (l : List Position) (d : ℕ) → d ≤ 0 → bound C w (stack l d) ≡ Open
+pub bound-none : (C : Shape) (w : List ℕ) (l : List Position) (d : ℕ) → d ≤ 0 → bound C w (stack l d) ≡ Open
 unfolding bound
 bound-none C w l d z = rw (stack-none l d (omega arith))

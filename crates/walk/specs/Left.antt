@@ -4,7 +4,7 @@ use mathlib.Core.List.{List, [], _∷_, _++_}
 use mathlib.Core.Path.{_≡_}
 use mathlib.Core.Bool.{Bool, true, false, _&&_}
 use lib.Dec.{leb, ltb, eqb}
-use Rattle.model.specs.Words.{pick, part, height, count, start, end, row, child}
+use Rattle.model.specs.Words.{Shape, pick, part, height, count, start, end, row, child}
 use Rattle.model.specs.Tree.{Limit, Open, Below, pairsFrom, nodeAt, level, last, overPairs}
 use Rattle.model.specs.Reading.{Visit, Enter, Leave, Bad, passes, visits, nextRow}
 use Rattle.model.specs.Paths.{stack, trail}
@@ -12,13 +12,13 @@ use Rattle.model.specs.declared.path.Position.{Position}
 use Rattle.model.specs.declared.path.Path.{Path}
 
 -- what is next after the entries that the positions, the last one first, have followed
-unfoldable pub bound : ℕ → List ℕ → List Position → Limit
+unfoldable pub bound : Shape → List ℕ → List Position → Limit
 bound C w [] = Open
 bound C w (p ∷ up) =
     pick (ltb (p .index) (count C w (p .node .0))) (Below (row C w (p .node .0) (p .index))) (bound C w up)
 
 -- what is left to visit where the last position is a node of height h
-unfoldable pub rest : Bool → ℕ → ℕ → List ℕ → ℕ → List Position → List Visit
+unfoldable pub rest : Bool → Shape → ℕ → List ℕ → ℕ → List Position → List Visit
 rest ends C P w h [] = []
 rest ends C P w h (p ∷ up) =
     let n = p .node .0 in
@@ -26,28 +26,28 @@ rest ends C P w h (p ∷ up) =
     ++ (Leave n ∷ rest ends C P w (suc h) up)
 
 -- a path's nodes are in the pool, each one higher than the next, at most 32 of them
-unfoldable pub Valid : ℕ → ℕ → List ℕ → ℕ → List Position → Type 0
+unfoldable pub Valid : Shape → ℕ → List ℕ → ℕ → List Position → Type 0
 Valid C P w h [] = h ≤ 32
 Valid C P w h (p ∷ up) =
     record {
       inside : p .node .0 < P;
       high : height C w (p .node .0) ≡ h;
       within : p .index ≤ count C w (p .node .0);
-      narrow : count C w (p .node .0) ≤ C;
+      narrow : count C w (p .node .0) ≤ C .cap;
       above : Valid C P w (suc h) up;
     }
 
-unfoldable pub lowest : ℕ → List ℕ → List Position → ℕ
+unfoldable pub lowest : Shape → List ℕ → List Position → ℕ
 lowest C w [] = 0
 lowest C w (p ∷ up) = height C w (p .node .0)
 
-unfoldable pub left : Bool → ℕ → ℕ → List ℕ → Path → List Visit
+unfoldable pub left : Bool → Shape → ℕ → List ℕ → Path → List Visit
 left ends C P w p = rest ends C P w (lowest C w (trail p)) (trail p)
 
-unfoldable pub ValidPath : ℕ → ℕ → List ℕ → Path → Type 0
+unfoldable pub ValidPath : Shape → ℕ → List ℕ → Path → Type 0
 ValidPath C P w p = Valid C P w (lowest C w (trail p)) (trail p)
 
 -- a move of the walk from path p to path q: visit v comes first of what was left
-pub record Moves (ends : Bool) (C P : ℕ) (w : List ℕ) (p : Path) (v : Visit) (q : Path) : Type 0 where
+pub record Moves (ends : Bool) (C : Shape) (P : ℕ) (w : List ℕ) (p : Path) (v : Visit) (q : Path) : Type 0 where
   pub one : left ends C P w p ≡ v ∷ left ends C P w q
   pub valid : ValidPath C P w q

@@ -3,7 +3,7 @@
 ghost use mathlib.Core.Path.{_≡_};
 ghost use Prim.Native.Nat.{_+_, _-_, _≤_, _<_};
 ghost use Rattle.model.specs.Paths.{trail};
-ghost use Rattle.node.specs.Layout.{Fits};
+ghost use Rattle.node.specs.Layout.{Fits, shapeOf};
 ghost use Rattle.node.specs.Test.{limitOf};
 ghost use Rattle.walk.specs.Left.{ValidPath, bound};
 ghost use Rattle.walk.specs.Step.{StepsTo};
@@ -31,8 +31,8 @@ pub struct Step {
 // What is next after the entries that the path has followed.
 pub fn next_on(l: Layout, s: &[u64], path: Path) -> Limit
     requires { ⌜ Fits l (now s) ⌝ }
-    requires { ⌜ ValidPath (l .capacity) (l .pool) (now s) path ⌝ }
-    ensures { λ r. ⌜ limitOf r ≡ bound (l .capacity) (now (s .entry)) (trail path) ⌝ }
+    requires { ⌜ ValidPath (shapeOf l) (l .pool) (now s) path ⌝ }
+    ensures { λ r. ⌜ limitOf r ≡ bound (shapeOf l) (now (s .entry)) (trail path) ⌝ }
 {
     let mut d = path.depth;
     while 0 < d {
@@ -51,8 +51,8 @@ pub fn next_on(l: Layout, s: &[u64], path: Path) -> Limit
 // The next visit of the walk.
 pub fn advance(l: Layout, s: &[u64], ends: bool, path: Path) -> Step
     requires { ⌜ Fits l (now s) ⌝ }
-    requires { ⌜ ValidPath (l .capacity) (l .pool) (now s) path ⌝ }
-    ensures { λ r. ⌜ StepsTo ends (l .capacity) (l .pool) (now (s .entry)) path (r .visit) (r .path) ⌝ }
+    requires { ⌜ ValidPath (shapeOf l) (l .pool) (now s) path ⌝ }
+    ensures { λ r. ⌜ StepsTo ends (shapeOf l) (l .pool) (now (s .entry)) path (r .visit) (r .path) ⌝ }
 {
     let depth = path.depth;
     if depth == 0 {

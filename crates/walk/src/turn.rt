@@ -4,7 +4,7 @@ ghost use mathlib.Core.Path.{_≡_};
 ghost use Prim.Native.Nat.{_+_, _-_, _≤_, _<_};
 ghost use Rattle.model.specs.Words.{child, count, height};
 ghost use Rattle.model.specs.Reading.{endFits, nextRow};
-ghost use Rattle.node.specs.Layout.{Fits};
+ghost use Rattle.node.specs.Layout.{Fits, shapeOf};
 ghost use Rattle.node.specs.Test.{limitOf};
 ghost use Rattle.walk.specs.Turn.{entering, enteredOf, hasChild, passTest};
 use model::id::NodeNo;
@@ -43,7 +43,7 @@ pub fn pass(
 ) -> NodeTest
     requires { ⌜ Fits l (now s) ⌝ }
     requires { ⌜ n .0 < l .pool ⌝ }
-    ensures { λ r. ⌜ r ≡ passTest ends (l .capacity) (l .pool) (now (s .entry)) (n .0) height (row .0) (limitOf next) ⌝ }
+    ensures { λ r. ⌜ r ≡ passTest ends (shapeOf l) (l .pool) (now (s .entry)) (n .0) height (row .0) (limitOf next) ⌝ }
 {
     if !ends {
         return test::test_node(l, s, n, height, row, next);
@@ -60,7 +60,7 @@ pub fn pass(
 pub fn has_child(l: Layout, s: &[u64], n: NodeNo, i: u64) -> bool
     requires { ⌜ Fits l (now s) ⌝ }
     requires { ⌜ n .0 < l .pool ⌝ }
-    ensures { λ r. ⌜ r ≡ hasChild (l .capacity) (now (s .entry)) (n .0) i ⌝ }
+    ensures { λ r. ⌜ r ≡ hasChild (shapeOf l) (now (s .entry)) (n .0) i ⌝ }
 {
     let height = l.part(s, n, 0);
     if height == 0 {
@@ -73,8 +73,8 @@ pub fn has_child(l: Layout, s: &[u64], n: NodeNo, i: u64) -> bool
 // What is next for entry i of node n.
 pub fn next_row(l: Layout, s: &[u64], n: NodeNo, i: u64, next: Limit) -> Limit
     requires { ⌜ Fits l (now s) ⌝ }
-    requires { ⌜ (n .0 < l .pool) × (i < count (l .capacity) (now s) (n .0)) × (count (l .capacity) (now s) (n .0) ≤ l .capacity) ⌝ }
-    ensures { λ r. ⌜ limitOf r ≡ nextRow (l .capacity) (now (s .entry)) (n .0) i (limitOf next) ⌝ }
+    requires { ⌜ (n .0 < l .pool) × (i < count (shapeOf l) (now s) (n .0)) × (count (shapeOf l) (now s) (n .0) ≤ l .capacity) ⌝ }
+    ensures { λ r. ⌜ limitOf r ≡ nextRow (shapeOf l) (now (s .entry)) (n .0) i (limitOf next) ⌝ }
 {
     let count = l.part(s, n, 1);
     if i + 1 < count {
@@ -92,8 +92,8 @@ pub enum Entered {
 // Child i of branch n, whose number is in range.
 pub fn enter(l: Layout, s: &[u64], ends: bool, n: NodeNo, i: u64, next: Limit) -> Entered
     requires { ⌜ Fits l (now s) ⌝ }
-    requires { ⌜ (n .0 < l .pool) × (0 < height (l .capacity) (now s) (n .0)) × (i < count (l .capacity) (now s) (n .0)) × (count (l .capacity) (now s) (n .0) ≤ l .capacity) × (child (l .capacity) (now s) (n .0) i < l .pool) ⌝ }
-    ensures { λ r. ⌜ enteredOf r ≡ entering ends (l .capacity) (l .pool) (now (s .entry)) (n .0) i (limitOf next) ⌝ }
+    requires { ⌜ (n .0 < l .pool) × (0 < height (shapeOf l) (now s) (n .0)) × (i < count (shapeOf l) (now s) (n .0)) × (count (shapeOf l) (now s) (n .0) ≤ l .capacity) × (child (shapeOf l) (now s) (n .0) i < l .pool) ⌝ }
+    ensures { λ r. ⌜ enteredOf r ≡ entering ends (shapeOf l) (l .pool) (now (s .entry)) (n .0) i (limitOf next) ⌝ }
 {
     let height = l.part(s, n, 0);
     let row = l.row(s, n, i);

@@ -19,12 +19,18 @@ put-requires-4 c κs = search needs
 put-requires-5 : tie.Need-put-requires-5
 put-requires-5 c κs = search needs
 
+put-requires-6 : tie.Need-put-requires-6
+put-requires-6 c κs = search needs
+
+put-requires-7 : tie.Need-put-requires-7
+put-requires-7 c κs = search needs
+
 same-length : tie.Need-same-length
 same-length c = search needs
 
 returns : tie.Need-returns
 unfolding fill
-returns c = rw (c .before .before .put5 .ensures, c .before .before .before .before .before .before .put4 .ensures, c .before .before .before .before .before .before .before .before .before .before .put3 .ensures, c .before .before .before .before .before .before .before .before .before .before .before .before .before .before .put2 .ensures, c .before .before .before .before .before .before .before .before .before .before .before .before .before .before .before .before .before .before .put .ensures) refl
+returns c = rw (c .before .before .put7 .ensures, c .before .before .before .before .before .before .put6 .ensures, c .before .before .before .before .before .before .before .before .before .before .put5 .ensures, c .before .before .before .before .before .before .before .before .before .before .before .before .before .before .put4 .ensures, c .before .before .before .before .before .before .before .before .before .before .before .before .before .before .before .before .before .before .put3 .ensures, c .before .before .before .before .before .before .before .before .before .before .before .before .before .before .before .before .before .before .before .before .before .before .put2 .ensures, c .before .before .before .before .before .before .before .before .before .before .before .before .before .before .before .before .before .before .before .before .before .before .before .before .before .before .put .ensures) refl
 
 pub write-spec : {M : Type 1} → statement M
 write-spec =
@@ -35,5 +41,7 @@ write-spec =
     put-requires-3
     put-requires-4
     put-requires-5
+    put-requires-6
+    put-requires-7
     same-length
     returns)

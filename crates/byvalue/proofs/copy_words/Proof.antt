@@ -2,8 +2,10 @@ use borrow.Author.Needs.{needs}
 use Prim.Native.Nat.{ℕ, _+_, _*_, _-_, _≤_, _<_}
 use mathlib.Core.Path.{_≡_, sym, ap, _∙_}
 use native.Mathlib.Omega.{arith}
-use lib.ListN.{length, drop, length-take}
-use Rattle.model.specs.Words.{base, fill}
+use lib.ListN.{length}
+use Rattle.model.specs.Words.{fill}
+use Rattle.node.specs.Layout.{shapeOf}
+use Rattle.node.proofs.Parts.{pairs-few}
 use Rattle.listing.specs.Listing.{recordsOf}
 use Rattle.byvalue.specs.Written.{wordsOf}
 use Rattle.byvalue.proofs.Writing.{pairs-all, no-pairs}
@@ -20,7 +22,7 @@ entries-requires c κs = c .before .before .before .before .before .pre .0 (omeg
 copy-front-requires : tie.Need-copy-front-requires
 copy-front-requires c κs =
     let a = c .before .before .before .before .before .before .before .args in
-    omega (arith, ap length (c .before .entries .ensures), length-take (2 * a .e .count) (drop (base (a .e .layout .capacity) (a .e .leaf .0) + 4) (a .s .now)), c .before .before .before .before .before .before .before .pre .1)
+    omega (arith, ap length (c .before .entries .ensures), pairs-few (shapeOf (a .e .layout)) (a .s .now) (a .e .leaf .0) 0 (a .e .count), c .before .before .before .before .before .before .before .pre .1)
 
 same-length : tie.Need-same-length
 same-length c = search needs

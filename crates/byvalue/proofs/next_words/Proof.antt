@@ -3,6 +3,7 @@ use Prim.Native.Nat.{ℕ, _≤_}
 use mathlib.Core.Path.{_≡_, sym, ap}
 use native.Mathlib.Omega.{arith}
 use lib.ListN.{length}
+use Rattle.node.specs.Layout.{shapeOf}
 use Rattle.model.specs.LeafWalk.{Stepped}
 use Rattle.listing.specs.Listing.{recordsOf}
 use Rattle.listing.proofs.Filling.{length-records}
@@ -28,7 +29,7 @@ returns c =
       answer = λ l e. ap (λ (z : Stepped). z .answer) (st .is l e);
       cursor = λ l e. ap (λ (z : Stepped). z .cursor) (st .is l e);
       list = λ l e. sym (ap (λ (z : Stepped). z .list) (st .is l e));
-      few = omega (arith, st .fits, length-records (r .entries .layout .capacity) w (r .entries .leaf .0) 0 (r .entries .count));
+      few = omega (arith, st .fits, length-records (shapeOf (r .entries .layout)) w (r .entries .leaf .0) 0 (r .entries .count));
       words = c .before .before .before .copy-words .ensures;
     }
 

@@ -1,51 +1,38 @@
-use native.Mathlib.Omega.{arith}
-use Rattle.model.proofs.Words.{scaled}
-use Rattle.calls.proofs.Performing.{low-capacity, high-capacity, low-pool, high-pool, too-many, enough}
 use borrow.Author.Needs.{needs}
+use native.Mathlib.Omega.{arith}
+use mathlib.Core.Path.{sym, _∙_}
+use borrow.Author.Tests.{not-true, not-false}
+use Rattle.model.proofs.Header.{range-of}
+use Rattle.calls.proofs.Performing.{out-of-range, too-many, enough}
 use Rattle.calls.proofs.create_length.Statement.{statement}
 use Rattle.calls.proofs.create_length.Tie as tie
 
+in-range-requires : tie.Need-in-range-requires
+in-range-requires c κs = search needs
+
 returns : tie.Need-returns
-returns c = let a = c .before .args in low-capacity _ _ (a .nodes) (omega arith)
+returns c =
+    let a = c .before .before .args in
+    out-of-range (a .all) (a .capacity) (a .nodes) (sym (c .before .in-range .ensures) ∙ not-true _ (c .if1 .taken))
+
+store-length-requires : tie.Need-store-length-requires
+store-length-requires c κs =
+    let a = c .before .before .args in
+    let r = range-of (a .capacity) (a .nodes) (sym (c .before .in-range .ensures) ∙ not-false _ (c .if1 .left)) in
+    (r .cap-high, r .pool-high)
 
 returns-2 : tie.Need-returns-2
-returns-2 c = let a = c .before .before .args in high-capacity _ _ (a .nodes) (omega arith) (omega arith)
+returns-2 c =
+    let a = c .before .before .before .before .args in
+    let good = sym (c .before .before .before .in-range .ensures) ∙ not-false _ (c .before .before .if1 .left) in
+    too-many (a .all) (a .capacity) (a .nodes) good (omega (arith, c .before .store-length .ensures, c .if2 .taken))
 
 returns-3 : tie.Need-returns-3
-returns-3 c = let a = c .before .before .before .args in low-pool _ (a .capacity) (a .nodes) (omega arith) (omega arith) (omega arith)
-
-returns-4 : tie.Need-returns-4
-returns-4 c = let a = c .before .before .before .before .args in high-pool _ (a .capacity) (a .nodes) (omega arith) (omega arith) (omega arith) (omega arith)
-
-mul-len : tie.Need-mul-len
-mul-len c = search needs
-
-add-len : tie.Need-add-len
-add-len c = search needs
-
-mul-len-2 : tie.Need-mul-len-2
-mul-len-2 c = let a = c .before .before .before .before .args in omega (arith, scaled (a .capacity) (a .nodes) (omega arith) (omega arith))
-
-add-len-2 : tie.Need-add-len-2
-add-len-2 c = let a = c .before .before .before .before .args in omega (arith, scaled (a .capacity) (a .nodes) (omega arith) (omega arith))
-
-returns-5 : tie.Need-returns-5
-returns-5 c = let a = c .before .before .before .before .before .args in too-many _ (a .capacity) (a .nodes) (omega arith) (omega arith) (omega arith) (omega arith) (c .if5 .taken)
-
-returns-6 : tie.Need-returns-6
-returns-6 c = let a = c .before .before .before .before .before .args in enough _ (a .capacity) (a .nodes) (omega arith) (omega arith) (omega arith) (omega arith) (c .if5 .left)
+returns-3 c =
+    let a = c .before .before .before .before .args in
+    let good = sym (c .before .before .before .in-range .ensures) ∙ not-false _ (c .before .before .if1 .left) in
+    c .before .store-length .ensures ∙ enough (a .all) (a .capacity) (a .nodes) good (omega (arith, c .before .store-length .ensures, c .if2 .left))
 
 pub create-length-spec : {M : Type 1} → statement M
 create-length-spec =
-    tie.close
-    (tie.spec
-    returns
-    returns-2
-    returns-3
-    returns-4
-    mul-len
-    add-len
-    mul-len-2
-    add-len-2
-    returns-5
-    returns-6)
+    tie.close (tie.spec in-range-requires returns store-length-requires returns-2 returns-3)

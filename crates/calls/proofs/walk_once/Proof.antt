@@ -9,8 +9,8 @@ next-words-requires c κs = search needs
 put-next-requires : tie.Need-put-next-requires
 put-next-requires c κs = search needs
 
-is-leaf-requires : tie.Need-is-leaf-requires
-is-leaf-requires c κs = search needs
+gives-leaf-requires : tie.Need-gives-leaf-requires
+gives-leaf-requires c κs = search needs
 
 same-length : tie.Need-same-length
 same-length c = search needs
@@ -19,7 +19,7 @@ same-length-2 : tie.Need-same-length-2
 same-length-2 c = search needs
 
 returns : tie.Need-returns
-returns c = once (c .before .before .before .before .before .before .before .before .before .before .before .before .before .pre) (c .before .before .before .before .before .before .before .before .next-words .ensures) (c .before .before .before .put-next .ensures) (c .is-leaf .ensures)
+returns c = once (c .before .before .before .before .before .before .before .before .before .before .before .before .before .pre) (c .before .before .before .before .before .before .before .before .next-words .ensures) (c .before .before .before .put-next .ensures) (c .gives-leaf .ensures)
 
 pub walk-once-spec : {M : Type 1} → statement M
 walk-once-spec =
@@ -27,7 +27,7 @@ walk-once-spec =
     (tie.spec
     next-words-requires
     put-next-requires
-    is-leaf-requires
+    gives-leaf-requires
     same-length
     same-length-2
     returns)

@@ -3,14 +3,14 @@ use Prim.Native.Nat.{_-_, _≤_}
 use mathlib.Core.Path.{_≡_, refl, sym, _∙_}
 use native.Mathlib.Omega.{arith}
 use Rattle.model.specs.Create.{chained}
-use Rattle.node.specs.Layout.{Fits}
+use Rattle.node.specs.Layout.{shapeOf, Fits}
 use Rattle.pool.proofs.Turns.{turn, stop}
 use Rattle.create.proofs.link_nodes.Statement.{statement}
 use Rattle.create.proofs.link_nodes.Tie as tie
 
 abbrev Inv-loop : tie.InvT-loop
 Inv-loop l s₀ n₀ s n =
-    Fits l s × (1 ≤ n) × (n ≤ l .pool) × (chained (l .capacity) s₀ 1 (l .pool - 1) ≡ chained (l .capacity) s n (l .pool - n))
+    Fits l s × (1 ≤ n) × (n ≤ l .pool) × (chained (shapeOf l) s₀ 1 (l .pool - 1) ≡ chained (shapeOf l) s n (l .pool - n))
 
 abbrev μ-loop : tie.MeasureT-loop
 μ-loop l s₀ n₀ s n = l .pool - n

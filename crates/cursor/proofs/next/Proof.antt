@@ -42,7 +42,7 @@ use denote.Triple.Table.{entered, cited}
 use denote.Triple.Walked.{says, Stays, stay-ref, stay-none-slice, gave-slice, walkOf, AllGo, goes-ref, goes-none-slice, goes-gave-slice, Walks, ends-at, walked, walk-meets}
 use denote.Triple.Clauses.{ensured, lasts}
 use denote.Exit.{yes}
-use Rattle.model.specs.Words.{fill}
+use Rattle.model.specs.Words.{lent, fill}
 use Rattle.model.specs.Refusals.{nextLeaf}
 use Rattle.model.specs.LeafWalk.{Stepped, nextLeafOf}
 use Rattle.model.specs.declared.node.PageEntry.{PageEntry}
@@ -142,7 +142,7 @@ module _ {M : Type 1} (𝓤 : URA M) (H : Heap 𝓤) (A : Atoms 𝓤) (W : Given
   Had r ys = ‵ (fobs γ (T.the-row .coded .code (r .cursor))) ∷ ‵ (fbor κ₁ (Body (mem T.the-row) b o γ)) ∷ ‵ (flft κ₁ q₁) ∷ ‵ Own ∷ ‵ (finally E.the-row (out .name) ys) ∷ ‵ (flft κ₂ q₂) ∷ ‵ (flft κ₃ q₃) ∷ []
 
   abbrev stepped : Stepped
-  stepped = nextLeafOf l h zs
+  stepped = nextLeafOf lent l h zs
 
   exits : (r : LeafStep) (ys : List PageEntry) → Steps l h (length zs) r → ys ≡ fill zs 0 (recordsOf l (r .entries)) → length ys ≡ length zs → Is F.the-row (r .answer) (fval (r .answer) ∷ []) → ent 𝓤 (⋆ 𝓤 H A (Had r ys)) (Post (fval (r .answer)))
   exits r ys e f len is-found =

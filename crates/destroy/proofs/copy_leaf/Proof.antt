@@ -3,6 +3,7 @@ use Prim.Native.Nat.{ℕ, _+_, _-_, _≤_}
 use mathlib.Core.Path.{_≡_, refl, sym, ap, _∙_}
 use native.Mathlib.Omega.{arith}
 use lib.ListN.{length, length-set}
+use Rattle.node.specs.Layout.{shapeOf}
 use Rattle.model.specs.Words.{fill, part}
 use Rattle.destroy.specs.Pages.{pagesFrom}
 use Rattle.destroy.proofs.Filling.{leaf-pages, branch-pages, leaf-length, fill-start, fill-more, fill-done}
@@ -11,7 +12,7 @@ use Rattle.destroy.proofs.copy_leaf.Tie as tie
 
 abbrev Inv-loop : tie.InvT-loop
 Inv-loop l s n pages₀ at height count place₀ i₀ pages place i =
-    (fill pages₀ at (pagesFrom (l .capacity) s (n .0) 0 count) ≡ fill pages place (pagesFrom (l .capacity) s (n .0) i (count - i))) × (place ≡ at + i) × (i ≤ count) × (length pages ≡ length pages₀)
+    (fill pages₀ at (pagesFrom (shapeOf l) s (n .0) 0 count) ≡ fill pages place (pagesFrom (shapeOf l) s (n .0) i (count - i))) × (place ≡ at + i) × (i ≤ count) × (length pages ≡ length pages₀)
 
 abbrev μ-loop : tie.MeasureT-loop
 μ-loop l s n pages₀ at height count place₀ i₀ pages place i = count - i
@@ -21,7 +22,7 @@ part-requires c κs = search needs
 
 returns : tie.Need-returns Inv-loop μ-loop
 unfolding fill
-returns c = let a = c .before .before .before .before .args in rw (branch-pages (a .l .capacity) (a .s .now) (a .n .0) (λ z. c .if1 .taken (c .before .part .ensures ∙ z))) (omega arith, refl)
+returns c = let a = c .before .before .before .before .args in rw (branch-pages (shapeOf (a .l)) (a .s .now) (a .n .0) (λ z. c .if1 .taken (c .before .part .ensures ∙ z))) (omega arith, refl)
 
 part-requires-2 : tie.Need-part-requires-2 Inv-loop μ-loop
 part-requires-2 c κs = search needs
@@ -36,7 +37,7 @@ mul-pages : tie.Need-mul-pages Inv-loop μ-loop
 mul-pages c = search needs
 
 slice-write-pages : tie.Need-slice-write-pages Inv-loop μ-loop
-slice-write-pages c = let a = c .before .before .before .before .before .before .before .before .args in omega (arith, c .before .before .loop .inv .1, c .before .before .loop .inv .3, c .before .loop-test .taken, c .before .before .before .before .before .before .before .before .pre .1 .2, c .before .before .before .part2 .ensures, leaf-length (a .l .capacity) (a .s .now) (a .n .0) (sym (c .before .before .before .before .before .part .ensures) ∙ c .before .before .before .before .if1 .left))
+slice-write-pages c = let a = c .before .before .before .before .before .before .before .before .args in omega (arith, c .before .before .loop .inv .1, c .before .before .loop .inv .3, c .before .loop-test .taken, c .before .before .before .before .before .before .before .before .pre .1 .2, c .before .before .before .part2 .ensures, leaf-length (shapeOf (a .l)) (a .s .now) (a .n .0) (sym (c .before .before .before .before .before .part .ensures) ∙ c .before .before .before .before .if1 .left))
 
 add-place : tie.Need-add-place Inv-loop μ-loop
 add-place c = search needs
@@ -52,7 +53,7 @@ loop-again c =
     let a = c .before .before .before .before .before .before .before .before .args in
     let k = c .before .before .before .part2 .result in
     rw (c .page .ensures)
-    (c .before .before .loop .inv .0 ∙ fill-more (a .l .capacity) (a .s .now) (a .n .0) (c .before .before .loop .pages) (c .before .before .loop .place) (c .before .before .loop .i) _ (c .before .loop-test .taken), omega (arith, c .before .before .loop .inv .1), omega (arith, c .before .loop-test .taken), length-set (c .before .before .loop .pages) (c .before .before .loop .place) _ ∙ c .before .before .loop .inv .3)
+    (c .before .before .loop .inv .0 ∙ fill-more (shapeOf (a .l)) (a .s .now) (a .n .0) (c .before .before .loop .pages) (c .before .before .loop .place) (c .before .before .loop .i) _ (c .before .loop-test .taken), omega (arith, c .before .before .loop .inv .1), omega (arith, c .before .loop-test .taken), length-set (c .before .before .loop .pages) (c .before .before .loop .place) _ ∙ c .before .before .loop .inv .3)
 
 same-length : tie.Need-same-length Inv-loop μ-loop
 same-length c = c .before .loop .inv .3
@@ -61,10 +62,10 @@ returns-2 : tie.Need-returns-2 Inv-loop μ-loop
 returns-2 c =
     let a = c .before .before .before .before .before .before .before .args in
     let leaf = sym (c .before .before .before .before .part .ensures) ∙ c .before .before .before .if1 .left in (
-      omega (arith, c .before .loop .inv .1, c .before .loop .inv .2, c .loop-test .left, c .before .before .part2 .ensures, leaf-length (a .l .capacity) (a .s .now) (a .n .0) leaf),
-      sym (c .before .loop .inv .0 ∙ fill-done (a .l .capacity) (a .s .now) (a .n .0) (c .before .loop .pages) (c .before .loop .place) (c .before .loop .i) _ (c .loop-test .left))
-          ∙ ap (λ (k : ℕ). fill (a .pages .now) (a .at) (pagesFrom (a .l .capacity) (a .s .now) (a .n .0) 0 k)) (c .before .before .part2 .ensures)
-          ∙ ap (fill (a .pages .now) (a .at)) (sym (leaf-pages (a .l .capacity) (a .s .now) (a .n .0) leaf)),
+      omega (arith, c .before .loop .inv .1, c .before .loop .inv .2, c .loop-test .left, c .before .before .part2 .ensures, leaf-length (shapeOf (a .l)) (a .s .now) (a .n .0) leaf),
+      sym (c .before .loop .inv .0 ∙ fill-done (shapeOf (a .l)) (a .s .now) (a .n .0) (c .before .loop .pages) (c .before .loop .place) (c .before .loop .i) _ (c .loop-test .left))
+          ∙ ap (λ (k : ℕ). fill (a .pages .now) (a .at) (pagesFrom (shapeOf (a .l)) (a .s .now) (a .n .0) 0 k)) (c .before .before .part2 .ensures)
+          ∙ ap (fill (a .pages .now) (a .at)) (sym (leaf-pages (shapeOf (a .l)) (a .s .now) (a .n .0) leaf)),
     )
 
 pub copy-leaf-spec : {M : Type 1} → statement M

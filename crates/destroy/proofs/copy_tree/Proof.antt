@@ -3,6 +3,7 @@ use mathlib.Core.Bool.{false}
 use mathlib.Core.Path.{_≡_, refl, sym, _∙_}
 use native.Mathlib.Omega.{arith}
 use lib.ListN.{length}
+use Rattle.node.specs.Layout.{shapeOf}
 use Rattle.model.specs.Words.{fill}
 use Rattle.model.specs.Reading.{pageIds, rootEntries}
 use Rattle.model.specs.Paths.{lastOf}
@@ -15,13 +16,13 @@ use Rattle.destroy.proofs.copy_tree.Tie as tie
 
 abbrev Inv-loop : tie.InvT-loop
 Inv-loop l s pages₀ path₀ place₀ pages path place =
-    Taking (l .capacity) (l .pool) s (fill pages₀ 0 (pageIds (rootEntries (l .capacity) s (lastOf path₀ .node .0)))) path pages place × (length pages ≡ length pages₀)
+    Taking (shapeOf l) (l .pool) s (fill pages₀ 0 (pageIds (rootEntries (shapeOf l) s (lastOf path₀ .node .0)))) path pages place × (length pages ≡ length pages₀)
 
 abbrev μ-loop : tie.MeasureT-loop
-μ-loop l s pages₀ path₀ place₀ pages path place = length (left false (l .capacity) (l .pool) s path)
+μ-loop l s pages₀ path₀ place₀ pages path place = length (left false (shapeOf l) (l .pool) s path)
 
 loop-holds : tie.Need-loop-holds Inv-loop μ-loop
-loop-holds c = let a = c .before .before .args in (start-taking (a .l .capacity) (a .l .pool) (a .s .now) (a .root .0) (a .pages .now) (c .before .before .pre .0) (c .before .before .pre .1), refl)
+loop-holds c = let a = c .before .before .args in (start-taking (shapeOf (a .l)) (a .l .pool) (a .s .now) (a .root .0) (a .pages .now) (c .before .before .pre .0) (c .before .before .pre .1), refl)
 
 sub-at : tie.Need-sub-at Inv-loop μ-loop
 sub-at c = search needs

@@ -5,6 +5,7 @@ use Prim.Native.Nat.{ℕ}
 use native.Mathlib.Omega.{arith}
 use borrow.Author.Tests.{not-true, not-false}
 use lib.ListN.{set, length}
+use Rattle.node.specs.Layout.{shapeOf}
 use Rattle.model.specs.Refusals.{Outcome}
 use Rattle.model.proofs.Writes.{freed-length}
 use Rattle.node.proofs.Opened.{is-open, opens-fits, opens-free}
@@ -51,7 +52,7 @@ free-node-requires c κs = let o = is-open _ _ (c .before .before .before .befor
 set-word-requires : tie.Need-set-word-requires
 set-word-requires c κs =
     let a = c .before .before .before .before .before .before .before .before .before .before .before .before .before .before .before .before .before .args in
-    omega (arith, ap (λ (v : List ℕ). length v) (c .before .before .before .free-node .ensures), freed-length (a .h .layout .capacity) (a .s .now) (a .h .root .0), opens-fits _ _ (is-open _ _ (c .before .before .before .before .before .before .before .before .before .before .before .before .before .before .before .before .before .pre)) .0 .long)
+    omega (arith, ap (λ (v : List ℕ). length v) (c .before .before .before .free-node .ensures), freed-length (shapeOf (a .h .layout)) (a .s .now) (a .h .root .0), opens-fits _ _ (is-open _ _ (c .before .before .before .before .before .before .before .before .before .before .before .before .before .before .before .before .before .pre)) .0 .long)
 
 same-length-4 : tie.Need-same-length-4
 same-length-4 c = search needs

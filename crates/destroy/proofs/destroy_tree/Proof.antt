@@ -5,6 +5,7 @@ use mathlib.Core.Path.{ap, _∙_}
 use native.Mathlib.Omega.{arith}
 use lib.ListN.{set}
 use lib.Seq.{take-all}
+use Rattle.node.specs.Layout.{shapeOf}
 use Rattle.model.specs.Words.{freeAll}
 use Rattle.model.specs.Reading.{rootNodes}
 use Rattle.model.specs.Release.{releasedWords}
@@ -32,7 +33,7 @@ unfolding releasedWords
 returns c =
     let a = c .before .before .before .before .before .before .before .before .before .before .before .before .before .before .before .args in (
       c .before .before .set-word .ensures
-          ∙ ap (λ (v : List ℕ). set v 2 (a .l .pool)) (c .before .before .before .before .before .before .free-first .ensures ∙ ap (freeAll (a .l .capacity) (a .s .now)) (take-all (a .k) (rootNodes (a .l .capacity) (a .s .now) (a .root .0)) (omega (arith, c .before .before .before .before .before .before .before .before .before .before .before .before .before .before .before .pre .1 .0)))),
+          ∙ ap (λ (v : List ℕ). set v 2 (a .l .pool)) (c .before .before .before .before .before .before .free-first .ensures ∙ ap (freeAll (shapeOf (a .l)) (a .s .now)) (take-all (a .k) (rootNodes (shapeOf (a .l)) (a .s .now) (a .root .0)) (omega (arith, c .before .before .before .before .before .before .before .before .before .before .before .before .before .before .before .pre .1 .0)))),
       c .before .before .before .before .before .before .before .before .before .before .copy-tree .ensures,
     )
 

@@ -2,6 +2,7 @@ use borrow.Author.Needs.{needs}
 use Prim.Native.Nat.{ℕ, _-_, _<_, _≤_}
 use mathlib.Core.Path.{_≡_, refl, sym, ap, _∙_}
 use native.Mathlib.Omega.{arith}
+use Rattle.node.specs.Layout.{shapeOf}
 use Rattle.model.specs.Paths.{lastOf}
 use Rattle.prefix.specs.Behind.{Behind}
 use Rattle.edge.specs.Edge.{Climbed}
@@ -10,7 +11,7 @@ use Rattle.edge.proofs.find_edge.Statement.{statement}
 use Rattle.edge.proofs.find_edge.Tie as tie
 
 abbrev Inv-loop : tie.InvT-loop
-Inv-loop l s used edge₀ at edge = (e : ℕ) × (root : ℕ) × Climbed (l .capacity) (l .pool) s e root edge × ((e root : ℕ) → Climbed (l .capacity) (l .pool) s e root edge₀ → Climbed (l .capacity) (l .pool) s e root edge)
+Inv-loop l s used edge₀ at edge = (e : ℕ) × (root : ℕ) × Climbed (shapeOf l) (l .pool) s e root edge × ((e root : ℕ) → Climbed (shapeOf l) (l .pool) s e root edge₀ → Climbed (shapeOf l) (l .pool) s e root edge)
 
 abbrev μ-loop : tie.MeasureT-loop
 μ-loop l s used edge₀ at edge = edge .depth
@@ -19,19 +20,19 @@ sub-at : tie.Need-sub-at Inv-loop μ-loop
 sub-at c = let a = c .before .args in omega (arith, c .before .pre .1 .2 .deep)
 
 mul-last : tie.Need-mul-last Inv-loop μ-loop
-mul-last c = let a = c .before .args in omega (arith, c .before .pre .1 .2 .deep, depth-low (a .l .capacity) (a .l .pool) (a .s .now) (c .before .pre .1 .0) (c .before .pre .1 .1) (a .path) (a .used) (c .before .pre .1 .2))
+mul-last c = let a = c .before .args in omega (arith, c .before .pre .1 .2 .deep, depth-low (shapeOf (a .l)) (a .l .pool) (a .s .now) (c .before .pre .1 .0) (c .before .pre .1 .1) (a .path) (a .used) (c .before .pre .1 .2))
 
 element-copy-out-last : tie.Need-element-copy-out-last Inv-loop μ-loop
-element-copy-out-last c = let a = c .before .args in omega (arith, c .before .pre .1 .2 .deep, c .before .pre .1 .2 .long, depth-low (a .l .capacity) (a .l .pool) (a .s .now) (c .before .pre .1 .0) (c .before .pre .1 .1) (a .path) (a .used) (c .before .pre .1 .2))
+element-copy-out-last c = let a = c .before .args in omega (arith, c .before .pre .1 .2 .deep, c .before .pre .1 .2 .long, depth-low (shapeOf (a .l)) (a .l .pool) (a .s .now) (c .before .pre .1 .0) (c .before .pre .1 .1) (a .path) (a .used) (c .before .pre .1 .2))
 
 mul-t14 : tie.Need-mul-t14 Inv-loop μ-loop
-mul-t14 c = let a = c .before .before .before .args in omega (arith, c .before .before .before .pre .1 .2 .deep, depth-low (a .l .capacity) (a .l .pool) (a .s .now) (c .before .before .before .pre .1 .0) (c .before .before .before .pre .1 .1) (a .path) (a .used) (c .before .before .before .pre .1 .2))
+mul-t14 c = let a = c .before .before .before .args in omega (arith, c .before .before .before .pre .1 .2 .deep, depth-low (shapeOf (a .l)) (a .l .pool) (a .s .now) (c .before .before .before .pre .1 .0) (c .before .before .before .pre .1 .1) (a .path) (a .used) (c .before .before .before .pre .1 .2))
 
 element-set-from-edge : tie.Need-element-set-from-edge Inv-loop μ-loop
-element-set-from-edge c = let a = c .before .before .before .args in omega (arith, c .before .before .before .pre .1 .2 .deep, c .before .before .before .pre .1 .2 .long, depth-low (a .l .capacity) (a .l .pool) (a .s .now) (c .before .before .before .pre .1 .0) (c .before .before .before .pre .1 .1) (a .path) (a .used) (c .before .before .before .pre .1 .2))
+element-set-from-edge c = let a = c .before .before .before .args in omega (arith, c .before .before .before .pre .1 .2 .deep, c .before .before .before .pre .1 .2 .long, depth-low (shapeOf (a .l)) (a .l .pool) (a .s .now) (c .before .before .before .pre .1 .0) (c .before .before .before .pre .1 .1) (a .path) (a .used) (c .before .before .before .pre .1 .2))
 
 loop-holds : tie.Need-loop-holds Inv-loop μ-loop
-loop-holds c = let a = c .before .before .before .args in (c .before .before .before .pre .1 .0, c .before .before .before .pre .1 .1, start-climb (a .l .capacity) (a .l .pool) (a .s .now) (c .before .before .before .pre .1 .0) (c .before .before .before .pre .1 .1) (a .path) (a .used) (c .before .before .before .pre .1 .2), λ e root x. x)
+loop-holds c = let a = c .before .before .before .args in (c .before .before .before .pre .1 .0, c .before .before .before .pre .1 .1, start-climb (shapeOf (a .l)) (a .l .pool) (a .s .now) (c .before .before .before .pre .1 .0) (c .before .before .before .pre .1 .1) (a .path) (a .used) (c .before .before .before .pre .1 .2), λ e root x. x)
 
 sub-above : tie.Need-sub-above Inv-loop μ-loop
 sub-above c = search needs
@@ -43,12 +44,12 @@ element-copy-out-top : tie.Need-element-copy-out-top Inv-loop μ-loop
 element-copy-out-top c = omega (arith, c .before .loop .inv .2 .low, c .before .loop .inv .2 .long, c .loop-test .taken)
 
 part-requires : tie.Need-part-requires Inv-loop μ-loop
-part-requires c κs = let a = c .before .before .before .before .before .before .before .args in (c .before .before .before .before .before .before .before .pre .0, (node-in (a .l .capacity) (a .l .pool) (a .s .now) (c .before .before .before .loop .inv .0) (c .before .before .before .loop .inv .1) (c .before .before .before .loop .edge) (c .before .before .before .loop .inv .2), omega arith))
+part-requires c κs = let a = c .before .before .before .before .before .before .before .args in (c .before .before .before .before .before .before .before .pre .0, (node-in (shapeOf (a .l)) (a .l .pool) (a .s .now) (c .before .before .before .loop .inv .0) (c .before .before .before .loop .inv .1) (c .before .before .before .loop .edge) (c .before .before .before .loop .inv .2), omega arith))
 
 returns : tie.Need-returns Inv-loop μ-loop
 returns c =
     let a = c .before .before .before .before .before .before .before .before .before .args in
-    λ e root d. keeps-some (a .l .capacity) (a .l .pool) (a .s .now) e root (c .before .before .before .before .before .loop .edge) (c .before .before .before .before .before .loop .inv .3 e root (start-climb (a .l .capacity) (a .l .pool) (a .s .now) e root (a .path) (a .used) d)) (rw (c .before .part .ensures) at (c .if1 .taken))
+    λ e root d. keeps-some (shapeOf (a .l)) (a .l .pool) (a .s .now) e root (c .before .before .before .before .before .loop .edge) (c .before .before .before .before .before .loop .inv .3 e root (start-climb (shapeOf (a .l)) (a .l .pool) (a .s .now) e root (a .path) (a .used) d)) (rw (c .before .part .ensures) at (c .if1 .taken))
 
 loop-less : tie.Need-loop-less Inv-loop μ-loop
 loop-less c = omega (arith, c .before .before .before .before .loop-test .taken)
@@ -59,14 +60,14 @@ loop-again c =
     let full = rw (c .before .part .ensures) at (c .if1 .left) in (
       c .before .before .before .before .before .loop .inv .0,
       c .before .before .before .before .before .loop .inv .1,
-      climb (a .l .capacity) (a .l .pool) (a .s .now) (c .before .before .before .before .before .loop .inv .0) (c .before .before .before .before .before .loop .inv .1) (c .before .before .before .before .before .loop .edge) (c .before .before .before .before .before .loop .inv .2) (c .before .before .before .before .loop-test .taken) full,
-      λ e root x. climb (a .l .capacity) (a .l .pool) (a .s .now) e root (c .before .before .before .before .before .loop .edge) (c .before .before .before .before .before .loop .inv .3 e root x) (c .before .before .before .before .loop-test .taken) full,
+      climb (shapeOf (a .l)) (a .l .pool) (a .s .now) (c .before .before .before .before .before .loop .inv .0) (c .before .before .before .before .before .loop .inv .1) (c .before .before .before .before .before .loop .edge) (c .before .before .before .before .before .loop .inv .2) (c .before .before .before .before .loop-test .taken) full,
+      λ e root x. climb (shapeOf (a .l)) (a .l .pool) (a .s .now) e root (c .before .before .before .before .before .loop .edge) (c .before .before .before .before .before .loop .inv .3 e root x) (c .before .before .before .before .loop-test .taken) full,
     )
 
 returns-2 : tie.Need-returns-2 Inv-loop μ-loop
 returns-2 c =
     let a = c .before .before .before .before .before .args in
-    λ e root d. at-root (a .l .capacity) (a .l .pool) (a .s .now) e root (c .before .loop .edge) (c .before .loop .inv .3 e root (start-climb (a .l .capacity) (a .l .pool) (a .s .now) e root (a .path) (a .used) d)) (c .loop-test .left)
+    λ e root d. at-root (shapeOf (a .l)) (a .l .pool) (a .s .now) e root (c .before .loop .edge) (c .before .loop .inv .3 e root (start-climb (shapeOf (a .l)) (a .l .pool) (a .s .now) e root (a .path) (a .used) d)) (c .loop-test .left)
 
 pub find-edge-spec : {M : Type 1} → statement M
 find-edge-spec =

@@ -4,6 +4,7 @@ use mathlib.Core.List.{List, [], _∷_}
 use mathlib.Core.Path.{_≡_, refl, sym, ap, _∙_, subst}
 use native.Mathlib.Omega.{arith}
 use lib.Dec.{T}
+use Rattle.node.specs.Layout.{shapeOf}
 use Rattle.model.specs.Words.{part, count, child}
 use Rattle.model.specs.Tree.{pairsFrom, rising}
 use Rattle.model.specs.Reading.{lastNotAbove}
@@ -17,29 +18,29 @@ part-requires : tie.Need-part-requires
 part-requires c κs = search needs
 
 returns : tie.Need-returns
-returns c b = let a = c .before .before .before .args in sym (found-none (a .l .capacity) (a .s .now) (a .row .0) (a .n .0) b (sym (c .before .part .ensures) ∙ c .if1 .taken))
+returns c b = let a = c .before .before .before .args in sym (found-none (shapeOf (a .l)) (a .s .now) (a .row .0) (a .n .0) b (sym (c .before .part .ensures) ∙ c .if1 .taken))
 
 part-requires-2 : tie.Need-part-requires-2
 part-requires-2 c κs = search needs
 
 returns-2 : tie.Need-returns-2
-returns-2 c b = let a = c .before .before .before .before .before .before .args in sym (found-past (a .l .capacity) (a .s .now) (a .row .0) (a .n .0) b (omega (arith, c .if2 .taken, c .before .before .part2 .ensures)))
+returns-2 c b = let a = c .before .before .before .before .before .before .args in sym (found-past (shapeOf (a .l)) (a .s .now) (a .row .0) (a .n .0) b (omega (arith, c .if2 .taken, c .before .before .part2 .ensures)))
 
 place-of-requires : tie.Need-place-of-requires
 place-of-requires c κs =
     let a = c .before .before .before .before .before .before .args in
-    (c .before .before .before .before .before .before .pre .0, (c .before .before .before .before .before .before .pre .1 .inside, omega (arith, c .before .before .before .if1 .left), omega (arith, c .before .before .before .before .before .before .pre .1 .many, c .before .before .before .before .part .ensures), subst (λ (k : ℕ). T (rising (pairsFrom (a .l .capacity) (a .s .now) (λ (x : ℕ). x) (a .n .0) 0 k))) (sym (c .before .before .before .before .part .ensures)) (c .before .before .before .before .before .before .pre .1 .rises)))
+    (c .before .before .before .before .before .before .pre .0, (c .before .before .before .before .before .before .pre .1 .inside, omega (arith, c .before .before .before .if1 .left), omega (arith, c .before .before .before .before .before .before .pre .1 .many, c .before .before .before .before .part .ensures), subst (λ (k : ℕ). T (rising (pairsFrom (shapeOf (a .l)) (a .s .now) (λ (x : ℕ). x) (a .n .0) 0 k))) (sym (c .before .before .before .before .part .ensures)) (c .before .before .before .before .before .before .pre .1 .rises)))
 
 page-requires : tie.Need-page-requires
 page-requires c κs =
     let a = c .before .before .before .before .before .before .before .args in
-    (c .before .before .before .before .before .before .before .pre .0, (c .before .before .before .before .before .before .before .pre .1 .inside, omega (arith, c .place-of .ensures, c .before .before .before .before .before .before .before .pre .1 .many, c .before .before .before .before .before .part .ensures, place-below (a .l .capacity) (a .s .now) (a .n .0) (a .row .0) (c .before .before .before .before .before .part .result) (omega (arith, c .before .before .before .before .if1 .left)))))
+    (c .before .before .before .before .before .before .before .pre .0, (c .before .before .before .before .before .before .before .pre .1 .inside, omega (arith, c .place-of .ensures, c .before .before .before .before .before .before .before .pre .1 .many, c .before .before .before .before .before .part .ensures, place-below (shapeOf (a .l)) (a .s .now) (a .n .0) (a .row .0) (c .before .before .before .before .before .part .result) (omega (arith, c .before .before .before .before .if1 .left)))))
 
 returns-3 : tie.Need-returns-3
 returns-3 c b =
     let a = c .before .before .before .before .before .before .before .before .args in
-    ap (λ (x : ℕ). result (x ∷ [])) (c .page .ensures ∙ ap (child (a .l .capacity) (a .s .now) (a .n .0)) (c .before .place-of .ensures ∙ ap (lastNotAbove (a .l .capacity) (a .s .now) (a .row .0) (a .n .0)) (c .before .before .before .before .before .before .part .ensures)))
-    ∙ sym (found-page (a .l .capacity) (a .s .now) (a .row .0) (a .n .0) b (omega (arith, c .before .before .before .before .before .if1 .left, c .before .before .before .before .before .before .part .ensures)) (omega (arith, c .before .before .if2 .left, c .before .before .before .before .part2 .ensures)))
+    ap (λ (x : ℕ). result (x ∷ [])) (c .page .ensures ∙ ap (child (shapeOf (a .l)) (a .s .now) (a .n .0)) (c .before .place-of .ensures ∙ ap (lastNotAbove (shapeOf (a .l)) (a .s .now) (a .row .0) (a .n .0)) (c .before .before .before .before .before .before .part .ensures)))
+    ∙ sym (found-page (shapeOf (a .l)) (a .s .now) (a .row .0) (a .n .0) b (omega (arith, c .before .before .before .before .before .if1 .left, c .before .before .before .before .before .before .part .ensures)) (omega (arith, c .before .before .if2 .left, c .before .before .before .before .part2 .ensures)))
 
 pub find-in-leaf-spec : {M : Type 1} → statement M
 find-in-leaf-spec =

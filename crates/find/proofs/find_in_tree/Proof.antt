@@ -4,6 +4,7 @@ use mathlib.Core.List.{[]}
 use mathlib.Core.Path.{_≡_, refl, sym, ap, _∙_, subst}
 use native.Mathlib.Omega.{arith}
 use borrow.Author.Tests.{not-true, not-false}
+use Rattle.node.specs.Layout.{shapeOf}
 use Rattle.model.specs.Words.{pick}
 use Rattle.model.specs.Reading.{Reached, rootLeaf, toRow}
 use Rattle.model.specs.Lookup.{foundIn}
@@ -22,12 +23,12 @@ is-sound-root-requires c κs = search needs
 returns : tie.Need-returns
 returns c =
     let a = c .before .before .before .before .before .before .args in
-    sym (outside (a .l .capacity) (a .l .pool) (a .s .now) (a .root .0) (a .row .0) (omega (arith, c .before .before .if1 .taken, c .before .before .before .before .part .ensures)) ∙ ap (λ (t : Bool). pick t (result []) (refused 2 (a .root .0))) (sym (c .before .is-sound-root .ensures) ∙ not-true _ (c .if2 .taken)))
+    sym (outside (shapeOf (a .l)) (a .l .pool) (a .s .now) (a .root .0) (a .row .0) (omega (arith, c .before .before .if1 .taken, c .before .before .before .before .part .ensures)) ∙ ap (λ (t : Bool). pick t (result []) (refused 2 (a .root .0))) (sym (c .before .is-sound-root .ensures) ∙ not-true _ (c .if2 .taken)))
 
 returns-2 : tie.Need-returns-2
 returns-2 c =
     let a = c .before .before .before .before .before .before .args in
-    sym (outside (a .l .capacity) (a .l .pool) (a .s .now) (a .root .0) (a .row .0) (omega (arith, c .before .before .if1 .taken, c .before .before .before .before .part .ensures)) ∙ ap (λ (t : Bool). pick t (result []) (refused 2 (a .root .0))) (sym (c .before .is-sound-root .ensures) ∙ not-false _ (c .if2 .left)))
+    sym (outside (shapeOf (a .l)) (a .l .pool) (a .s .now) (a .root .0) (a .row .0) (omega (arith, c .before .before .if1 .taken, c .before .before .before .before .part .ensures)) ∙ ap (λ (t : Bool). pick t (result []) (refused 2 (a .root .0))) (sym (c .before .is-sound-root .ensures) ∙ not-false _ (c .if2 .left)))
 
 find-leaf-requires : tie.Need-find-leaf-requires
 find-leaf-requires c κs = search needs
@@ -41,19 +42,19 @@ enum-known-n-2 c = search needs
 find-in-leaf-requires : tie.Need-find-in-leaf-requires
 find-in-leaf-requires c κs =
     let a = c .before .before .before .before .before .before .before .before .args in
-    (c .before .before .before .before .before .before .before .before .pre .0, is-leaf (toRow (a .l .capacity) (a .s .now) (a .row .0)) (a .l .capacity) (a .l .pool) (a .s .now) _ _ (a .root .0) (c .before .before .before .before .before .before .before .before .pre .1) (sym (c .before .before .before .find-leaf .ensures) ∙ ap reachedOf (c .before .n2 .given .1)))
+    (c .before .before .before .before .before .before .before .before .pre .0, is-leaf (toRow (shapeOf (a .l)) (a .s .now) (a .row .0)) (shapeOf (a .l)) (a .l .pool) (a .s .now) _ _ (a .root .0) (c .before .before .before .before .before .before .before .before .pre .1) (sym (c .before .before .before .find-leaf .ensures) ∙ ap reachedOf (c .before .n2 .given .1)))
 
 returns-3 : tie.Need-returns-3
 unfolding foundIn
 returns-3 c =
     let a = c .before .before .before .before .before .before .before .before .args in
-    sym (inside (a .l .capacity) (a .l .pool) (a .s .now) (a .root .0) (a .row .0) (omega (arith, c .before .before .before .before .if1 .left, c .before .before .before .before .before .before .part .ensures)) ∙ ap (foundIn (a .l .capacity) (a .s .now) (a .row .0)) (sym (c .before .before .before .find-leaf .ensures) ∙ ap reachedOf (c .before .n .given .1)))
+    sym (inside (shapeOf (a .l)) (a .l .pool) (a .s .now) (a .root .0) (a .row .0) (omega (arith, c .before .before .before .before .if1 .left, c .before .before .before .before .before .before .part .ensures)) ∙ ap (foundIn (shapeOf (a .l)) (a .s .now) (a .row .0)) (sym (c .before .before .before .find-leaf .ensures) ∙ ap reachedOf (c .before .n .given .1)))
 
 returns-4 : tie.Need-returns-4
 returns-4 c =
     let a = c .before .before .before .before .before .before .before .before .before .args in
     c .find-in-leaf .ensures _
-    ∙ sym (inside (a .l .capacity) (a .l .pool) (a .s .now) (a .root .0) (a .row .0) (omega (arith, c .before .before .before .before .before .if1 .left, c .before .before .before .before .before .before .before .part .ensures)) ∙ ap (foundIn (a .l .capacity) (a .s .now) (a .row .0)) (sym (c .before .before .before .before .find-leaf .ensures) ∙ ap reachedOf (c .before .before .n2 .given .1)))
+    ∙ sym (inside (shapeOf (a .l)) (a .l .pool) (a .s .now) (a .root .0) (a .row .0) (omega (arith, c .before .before .before .before .before .if1 .left, c .before .before .before .before .before .before .before .part .ensures)) ∙ ap (foundIn (shapeOf (a .l)) (a .s .now) (a .row .0)) (sym (c .before .before .before .before .find-leaf .ensures) ∙ ap reachedOf (c .before .before .n2 .given .1)))
 
 pub find-in-tree-spec : {M : Type 1} → statement M
 find-in-tree-spec =

@@ -1,10 +1,10 @@
 use borrow.Author.Needs.{needs}
 use mathlib.Core.Path.{_≡_, refl, sym, ap, _∙_, subst}
 use Prim.Native.Nat.{_<_}
-use Rattle.model.specs.Words.{capacity, pool, root, Header}
+use Rattle.model.specs.Words.{storeShape, lent, pool, root, Header}
 use Rattle.model.specs.Refusals.{Answer}
 use Rattle.model.specs.Lookup.{findInTree, tryFindRow}
-use Rattle.node.specs.Layout.{storeHeader}
+use Rattle.node.specs.Layout.{shapeOf, storeHeader}
 use Rattle.node.specs.declared.header.StoreHeader.{StoreHeader}
 use Rattle.node.proofs.Opened.{IsOpen, is-open, is-refused, goes-on}
 use Rattle.find.proofs.try_find_row.Statement.{statement}
@@ -35,8 +35,8 @@ returns-2 c =
     let w = c .before .before .before .before .before .before .before .before .args .s .now in
     let o = is-open w _ (sym (c .before .before .before .before .before .before .«open» .ensures) ∙ c .before .before .before .before .h .given .1) in
     c .find-in-tree .ensures
-    ∙ ap (λ (h : StoreHeader). findInTree (h .layout .capacity) (h .layout .pool) w (h .root .0) (c .before .before .before .before .before .before .before .before .args .row .0)) (o .header-is)
-    ∙ sym (goes-on w _ o (λ (a : Answer). a) (findInTree (capacity w) (pool w) w (root w) (c .before .before .before .before .before .before .before .before .args .row .0)))
+    ∙ ap (λ (h : StoreHeader). findInTree (shapeOf (h .layout)) (h .layout .pool) w (h .root .0) (c .before .before .before .before .before .before .before .before .args .row .0)) (o .header-is)
+    ∙ sym (goes-on w _ o (λ (a : Answer). a) (findInTree (storeShape lent w) (pool w) w (root w) (c .before .before .before .before .before .before .before .before .args .row .0)))
 
 pub try-find-row-spec : {M : Type 1} → statement M
 try-find-row-spec =

@@ -1,6 +1,7 @@
 use borrow.Author.Needs.{needs}
 use mathlib.Core.Path.{_≡_, refl, sym, _∙_}
 use native.Mathlib.Omega.{arith}
+use Rattle.node.specs.Layout.{shapeOf}
 use Rattle.model.specs.Words.{part}
 use Rattle.model.specs.FullCheck.{chainEnds}
 use Rattle.full_check.proofs.Following.{ends-out, ends-mark, ends-turn, ends-done}
@@ -8,7 +9,7 @@ use Rattle.full_check.proofs.follow_chain.Statement.{statement}
 use Rattle.full_check.proofs.follow_chain.Tie as tie
 
 abbrev Inv-loop : tie.InvT-loop
-Inv-loop l s k n₀ more₀ n more = chainEnds (l .capacity) (l .pool) s (n₀ .0) k ≡ chainEnds (l .capacity) (l .pool) s (n .0) more
+Inv-loop l s k n₀ more₀ n more = chainEnds (shapeOf l) (l .pool) s (n₀ .0) k ≡ chainEnds (shapeOf l) (l .pool) s (n .0) more
 
 abbrev μ-loop : tie.MeasureT-loop
 μ-loop l s k n₀ more₀ n more = more

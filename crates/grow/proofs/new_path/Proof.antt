@@ -3,7 +3,7 @@ use Prim.Native.Nat.{_+_, _-_, _≤_}
 use mathlib.Core.Path.{_≡_, sym, _∙_}
 use native.Mathlib.Omega.{arith}
 use Rattle.model.specs.Append.{newPath}
-use Rattle.node.specs.Layout.{Fits}
+use Rattle.node.specs.Layout.{shapeOf, Fits}
 use Rattle.pool.specs.Write.{listed}
 use Rattle.grow.proofs.NewPaths.{inside-at, path-turn, path-start, path-close}
 use Rattle.grow.proofs.new_path.Statement.{statement}
@@ -12,7 +12,7 @@ use Rattle.grow.proofs.new_path.Tie as tie
 abbrev Inv-loop : tie.InvT-loop
 Inv-loop l s₀ new at k nodes leaf i₀ s i =
     Fits l s × (at ≤ i) × (i ≤ leaf)
-    × (newPath (l .capacity) s₀ (new .start .0) (new .end .0) (new .page .0) (listed nodes at k) ≡ newPath (l .capacity) s (new .start .0) (new .end .0) (new .page .0) (listed nodes i (leaf + 1 - i)))
+    × (newPath (shapeOf l) s₀ (new .start .0) (new .end .0) (new .page .0) (listed nodes at k) ≡ newPath (shapeOf l) s (new .start .0) (new .end .0) (new .page .0) (listed nodes i (leaf + 1 - i)))
 
 abbrev μ-loop : tie.MeasureT-loop
 μ-loop l s₀ new at k nodes leaf i₀ s i = leaf - i

@@ -4,13 +4,17 @@ use mathlib.Core.List.{List}
 use mathlib.Core.Path.{_≡_, sym, ap, _∙_}
 use lib.ListN.{getD}
 use Rattle.model.specs.Words.{fill}
+use Rattle.model.specs.Refusals.{Answer}
 use Rattle.answers.specs.Numbers.{answerWords}
 use Rattle.model.specs.declared.cursor.RowPageIndexMemCursor.{RowPageIndexMemCursor}
 use Rattle.byvalue.specs.Written.{nextWordsOf, WordOutcome}
 use Rattle.byvalue.proofs.Equation.{words-are}
-use Rattle.host.specs.Cursors.{cursorIn, cursorWords}
+use Rattle.host.specs.Cursors.{cursorIn, cursorAfter}
 use Rattle.host.proofs.row_page_index_next.Statement.{statement}
 use Rattle.host.proofs.row_page_index_next.Tie as tie
+
+both : (l : List ℕ) (c d : RowPageIndexMemCursor) (x y : Answer) → c ≡ d → x ≡ y → cursorAfter l c x ≡ cursorAfter l d y
+both l c d x y p q = ap (λ (e : RowPageIndexMemCursor). cursorAfter l e x) p ∙ ap (cursorAfter l d) q
 
 cursor-in-requires : tie.Need-cursor-in-requires
 cursor-in-requires c κs = search needs
@@ -42,7 +46,7 @@ returns c =
     let s = words-are (a .words .now) _ (a .records .now) _ _ (c .before .before .before .before .before .before .before .before .before .before .before .before .next-words .ensures) in
     let e : nextWordsOf (a .words .now) _ (a .records .now) ≡ nextWordsOf (a .words .now) (cursorIn (a .cursor .now)) (a .records .now) = ap (λ (c : RowPageIndexMemCursor). nextWordsOf (a .words .now) c (a .records .now)) (c .before .before .before .before .before .before .before .before .before .before .before .before .before .before .cursor-in .ensures) in
     let q = c .before .before .before .before .next-leaf-numbers .ensures ∙ ap answerWords (s .0 ∙ ap (λ (o : WordOutcome). o .answer) e) in
-    (c .before .before .before .before .before .before .before .cursor-out .ensures ∙ ap (λ (c : RowPageIndexMemCursor). fill (a .cursor .now) 0 (cursorWords c)) (s .1 ∙ ap (λ (o : WordOutcome). o .cursor) e), (s .2 ∙ ap (λ (o : WordOutcome). o .words) e, (c .before .before .write .ensures ∙ ap (fill _ 0) q, ap (λ (l : List ℕ). getD l 0 0) q)))
+    (c .before .before .before .before .before .before .before .cursor-out .ensures ∙ both (a .cursor .now) _ _ _ _ (s .1 ∙ ap (λ (o : WordOutcome). o .cursor) e) (s .0 ∙ ap (λ (o : WordOutcome). o .answer) e), (s .2 ∙ ap (λ (o : WordOutcome). o .words) e, (c .before .before .write .ensures ∙ ap (fill _ 0) q, ap (λ (l : List ℕ). getD l 0 0) q)))
 
 pub row-page-index-next-spec : {M : Type 1} → statement M
 row-page-index-next-spec =

@@ -1,6 +1,7 @@
 use borrow.Author.Needs.{needs}
 use mathlib.Core.Path.{_≡_, sym, ap, _∙_, subst}
 use native.Mathlib.Omega.{arith}
+use Rattle.node.specs.Layout.{shapeOf}
 use Rattle.model.specs.Words.{part}
 use Rattle.model.specs.Tree.{Open}
 use Rattle.model.specs.Refusals.{Outcome}
@@ -39,10 +40,10 @@ place-page-requires c κs =
     let a = c .before .before .before .before .before .before .before .before .before .before .before .before .before .args in
     let p = c .before .before .before .before .before .before .before .before .before .before .before .before .before .pre in
     let y = c .before .before .before .before .before .before .before .find-room .ensures in
-    let k : c .before .before .before .before .before .before .before .find-room .result .needed ≡ room (a .h .layout .capacity) (a .s .now) (a .h .root .0) .needed = ap (λ (o : Room). o .needed) y in
+    let k : c .before .before .before .before .before .before .before .find-room .result .needed ≡ room (shapeOf (a .h .layout)) (a .s .now) (a .h .root .0) .needed = ap (λ (o : Room). o .needed) y in
     let g = passes _ _ _ _ _ (sym (c .before .before .before .before .test-limits .ensures) ∙ c .before .before .enum-told .given .1) in
-    let u = usable (a .h .layout .capacity) (a .h .layout .pool) (a .s .now) (a .h .root .0) (a .last .0) (p .1 .1) (omega (arith, k, g .enough, p .1 .0 .2)) (λ l. rw (c .before .before .before .before .before .part .ensures) at (g .low (omega (arith, k, c .before .before .before .before .before .part .ensures)))) in
-    (p .0, (p .1 .0, subst (Usable (a .h .layout .capacity) (a .h .layout .pool) (a .s .now) (a .h .root .0)) (sym y) u))
+    let u = usable (shapeOf (a .h .layout)) (a .h .layout .pool) (a .s .now) (a .h .root .0) (a .last .0) (p .1 .1) (omega (arith, k, g .enough, p .1 .0 .2)) (λ l. rw (c .before .before .before .before .before .part .ensures) at (g .low (omega (arith, k, c .before .before .before .before .before .part .ensures)))) in
+    (p .0, (p .1 .0, subst (Usable (shapeOf (a .h .layout)) (a .h .layout .pool) (a .s .now) (a .h .root .0)) (sym y) u))
 
 same-length : tie.Need-same-length
 same-length c = search needs
@@ -50,7 +51,7 @@ same-length c = search needs
 returns : tie.Need-returns
 returns c =
     let a = c .before .before .before .before .before .before .before .before .before .before .before .before .args in
-    let q = append-refused (a .h .layout .capacity) (a .h .layout .pool) (a .s .now) (a .h .root .0) (a .count) (a .page .0) (a .last .0) Open _ _ _ (roomOf (c .before .before .before .before .before .before .find-room .result)) (c .before .before .before .before .before .before .before .before .range-start .ensures) (c .before .before .before .before .part .ensures) (c .before .before .before .before .before .before .before .before .before .before .before .before .pre .1 .0 .2) (c .before .before .before .before .before .before .find-room .ensures) _ (sym (c .before .before .before .test-limits .ensures) ∙ c .before .r .given .1) in
+    let q = append-refused (shapeOf (a .h .layout)) (a .h .layout .pool) (a .s .now) (a .h .root .0) (a .count) (a .page .0) (a .last .0) Open _ _ _ (roomOf (c .before .before .before .before .before .before .find-room .result)) (c .before .before .before .before .before .before .before .before .range-start .ensures) (c .before .before .before .before .part .ensures) (c .before .before .before .before .before .before .before .before .before .before .before .before .pre .1 .0 .2) (c .before .before .before .before .before .before .find-room .ensures) _ (sym (c .before .before .before .test-limits .ensures) ∙ c .before .r .given .1) in
     (sym (ap (λ (o : Outcome). o .answer) q), sym (ap (λ (o : Outcome). o .words) q))
 
 same-length-2 : tie.Need-same-length-2
@@ -59,7 +60,7 @@ same-length-2 c = search needs
 returns-2 : tie.Need-returns-2
 returns-2 c =
     let a = c .before .before .before .before .before .before .before .before .before .before .before .before .before .before .before .before .args in
-    let q = append-fine (a .h .layout .capacity) (a .h .layout .pool) (a .s .now) (a .h .root .0) (a .count) (a .page .0) (a .last .0) Open _ _ _ (roomOf (c .before .before .before .before .before .before .before .before .before .before .find-room .result)) (c .before .before .before .before .before .before .before .before .before .before .before .before .range-start .ensures) (c .before .before .before .before .before .before .before .before .part .ensures) (c .before .before .before .before .before .before .before .before .before .before .before .before .before .before .before .before .pre .1 .0 .2) (c .before .before .before .before .before .before .before .before .before .before .find-room .ensures) (sym (c .before .before .before .before .before .before .before .test-limits .ensures) ∙ c .before .before .before .before .before .enum-told .given .1) in
+    let q = append-fine (shapeOf (a .h .layout)) (a .h .layout .pool) (a .s .now) (a .h .root .0) (a .count) (a .page .0) (a .last .0) Open _ _ _ (roomOf (c .before .before .before .before .before .before .before .before .before .before .find-room .result)) (c .before .before .before .before .before .before .before .before .before .before .before .before .range-start .ensures) (c .before .before .before .before .before .before .before .before .part .ensures) (c .before .before .before .before .before .before .before .before .before .before .before .before .before .before .before .before .pre .1 .0 .2) (c .before .before .before .before .before .before .before .before .before .before .find-room .ensures) (sym (c .before .before .before .before .before .before .before .test-limits .ensures) ∙ c .before .before .before .before .before .enum-told .given .1) in
     (c .before .before .place-page .ensures .0 ∙ sym (ap (λ (o : Outcome). o .answer) q), c .before .before .place-page .ensures .1 ∙ sym (ap (λ (o : Outcome). o .words) q))
 
 pub insert-after-spec : {M : Type 1} → statement M

@@ -1,6 +1,7 @@
 use borrow.Author.Needs.{needs}
 use mathlib.Core.Path.{sym, ap, _∙_}
 use borrow.Author.Tests.{not-true, not-false}
+use Rattle.node.specs.Layout.{shapeOf}
 use Rattle.model.specs.Refusals.{Outcome}
 use Rattle.insert.specs.Room.{roomOf}
 use Rattle.insert.proofs.Writing.{placed-bad, placed-good, listed-inside, head-apart}
@@ -18,7 +19,7 @@ returns c =
     let a = c .before .before .before .before .before .args in
     let p = c .before .before .before .before .before .pre in
     let t = rw (p .1 .0 .1) at (sym (c .before .read-chain .ensures .0) ∙ not-true _ (c .if1 .taken)) in
-    let q = placed-bad (a .h .layout .capacity) (a .h .layout .pool) (a .s .now) (a .h .root .0) (a .new .start .0) (a .new .end .0) (a .new .page .0) (roomOf (a .room)) t in
+    let q = placed-bad (shapeOf (a .h .layout)) (a .h .layout .pool) (a .s .now) (a .h .root .0) (a .new .start .0) (a .new .end .0) (a .new .page .0) (roomOf (a .room)) t in
     (sym (ap (λ (o : Outcome). o .answer) q), sym (ap (λ (o : Outcome). o .words) q))
 
 grow-tree-requires : tie.Need-grow-tree-requires
@@ -28,7 +29,7 @@ grow-tree-requires c κs =
     let g = not-false _ (c .before .before .if1 .left) in
     let t = sym (c .before .before .before .read-chain .ensures .0) ∙ g in
     let f = c .before .before .before .read-chain .ensures .1 g .0 in
-    (p .0, ((p .1 .0 .0, p .1 .1), (listed-inside (a .h .layout .capacity) (a .h .layout .pool) (a .s .now) _ _ _ t f, λ z. head-apart (a .h .layout .capacity) (a .h .layout .pool) (a .s .now) _ _ _ (a .h .root .0) t f z (p .1 .1 .high))))
+    (p .0, ((p .1 .0 .0, p .1 .1), (listed-inside (shapeOf (a .h .layout)) (a .h .layout .pool) (a .s .now) _ _ _ t f, λ z. head-apart (shapeOf (a .h .layout)) (a .h .layout .pool) (a .s .now) _ _ _ (a .h .root .0) t f z (p .1 .1 .high))))
 
 sub-set-chain : tie.Need-sub-set-chain
 sub-set-chain c = search needs
@@ -46,7 +47,7 @@ returns-2 c =
     let g = not-false _ (c .before .before .before .before .before .before .before .before .before .before .before .before .before .if1 .left) in
     let t = rw (p .1 .0 .1) at (sym (c .before .before .before .before .before .before .before .before .before .before .before .before .before .before .read-chain .ensures .0) ∙ g) in
     let f = rw (p .1 .0 .1) at (c .before .before .before .before .before .before .before .before .before .before .before .before .before .before .read-chain .ensures .1 g) in
-    let q = placed-good (a .h .layout .capacity) (a .h .layout .pool) (a .s .now) (a .h .root .0) (a .new .start .0) (a .new .end .0) (a .new .page .0) (roomOf (a .room)) t _ _ (f .0) (f .1) in
+    let q = placed-good (shapeOf (a .h .layout)) (a .h .layout .pool) (a .s .now) (a .h .root .0) (a .new .start .0) (a .new .end .0) (a .new .page .0) (roomOf (a .room)) t _ _ (f .0) (f .1) in
     (sym (ap (λ (o : Outcome). o .answer) q), c .before .before .before .before .set-chain .ensures ∙ rw (c .before .before .before .before .before .before .before .before .before .before .grow-tree .ensures, p .1 .0 .2) (sym (ap (λ (o : Outcome). o .words) q)))
 
 pub place-page-spec : {M : Type 1} → statement M

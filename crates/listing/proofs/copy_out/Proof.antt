@@ -55,7 +55,7 @@ use Rattle.model.specs.LeafWalk.{pageEntry}
 use Rattle.model.specs.declared.node.PageEntry.{PageEntry}
 use Rattle.model.proofs.node.PageEntry as E
 use Rattle.model.proofs.node.PageEntry.Laws as E′
-use Rattle.node.specs.Layout.{Fits}
+use Rattle.node.specs.Layout.{shapeOf, Fits}
 use Rattle.listing.specs.Listing.{Readable}
 use Rattle.listing.specs.declared.LeafEntries.{LeafEntries}
 use Rattle.listing.proofs.LeafEntries as L
@@ -81,7 +81,7 @@ abbrev evals : LeafEntries → List Val
 evals = LL.vals L.the-type L′.the-laws
 
 abbrev entryOf : List ℕ → LeafEntries → ℕ → PageEntry
-entryOf w e i = let C = e .layout .capacity in let n = e .leaf .0 in pageEntry (row C w n i) (child C w n i)
+entryOf w e i = let C = shapeOf (e .layout) in let n = e .leaf .0 in pageEntry (row C w n i) (child C w n i)
 
 module _ {M : Type 1} (𝓤 : URA M) (H : Heap 𝓤) (A : Atoms 𝓤) (at-mem : Memory → SProp 𝓤) (run : Routine → Fun 𝓤) where
   abbrev EntryAt : Contract 𝓤
@@ -97,7 +97,7 @@ module _ {M : Type 1} (𝓤 : URA M) (H : Heap 𝓤) (A : Atoms 𝓤) (W : Given
   n = g .count
 
   abbrev Upto-is : ℕ → List PageEntry
-  Upto-is = upto (g .layout .capacity) l (g .leaf .0) zs
+  Upto-is = upto (shapeOf (g .layout)) l (g .leaf .0) zs
 
   n-fits : n < 2 ^ 64
   n-fits = LL.owed L.the-type L′.the-laws g (evals g) is-g .1 .1 .0 .1
@@ -175,7 +175,7 @@ module _ {M : Type 1} (𝓤 : URA M) (H : Heap 𝓤) (A : Atoms 𝓤) (W : Given
   Nearer-wf = InvImage·wf (λ (u : Upto). n - u .i) (Nat·lt-wfRel .wf)
 
   same-length : (u : Upto) → length (u .ys) ≡ length zs
-  same-length u = ap length (u .is) ∙ length-upto (g .layout .capacity) l (g .leaf .0) zs (u .i)
+  same-length u = ap length (u .is) ∙ length-upto (shapeOf (g .layout)) l (g .leaf .0) zs (u .i)
 
   module _ (𝓣 : Tables 𝓤 H) (known : Triple 𝓤 (𝓣 .C #listing·entry-at) (EntryAt 𝓤 H A at-mem run)) (l₀ l₁ l₂ l₃ l₄ l₅ l₆ l₇ l₈ : ℕ) where
     abbrev C : Calls 𝓤 H
@@ -247,7 +247,7 @@ module _ {M : Type 1} (𝓤 : URA M) (H : Heap 𝓤) (A : Atoms 𝓤) (W : Given
         within = omega (arith, same-length u)
 
         next : (r : PageEntry) → r ≡ entryOf l g (u .i) → Upto
-        next r e = record { i = u .i + 1; ys = set (u .ys) (u .i) r; le = omega arith; is = more (g .layout .capacity) l (g .leaf .0) zs (u .i) (u .ys) r (u .is) e }
+        next r e = record { i = u .i + 1; ys = set (u .ys) (u .i) r; le = omega arith; is = more (shapeOf (g .layout)) l (g .leaf .0) zs (u .i) (u .ys) r (u .is) e }
 
     -- the turn that leaves the loop, and the rest of the body
     ends : (u : Upto) → n ≤ u .i → Sq W (At u) (runs C Λ En piece.turn-1 (anyQ (Turned u)))
@@ -267,7 +267,7 @@ module _ {M : Type 1} (𝓤 : URA M) (H : Heap 𝓤) (A : Atoms 𝓤) (W : Given
     turns u = dite (decLt (u .i) n) (copies u) (λ no. ends u (omega (arith, no)))
 
     abbrev begun : Upto
-    begun = record { i = 0; ys = zs; le = zero-le; is = none (g .layout .capacity) l (g .leaf .0) zs }
+    begun = record { i = 0; ys = zs; le = zero-le; is = none (shapeOf (g .layout)) l (g .leaf .0) zs }
 
     looped : Sq W (At begun) (runs C Λ En piece.t-2 (atRet En Post))
     looped = first ! $ blocks ! $ loops ! 𝓣 Nearer Nearer-wf At turns begun

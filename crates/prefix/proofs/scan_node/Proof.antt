@@ -7,6 +7,7 @@ use native.Mathlib.Omega.{arith}
 use native.Mathlib.Nat.{sub-zero}
 use borrow.Author.Tests.{eq-eqb, ne-eqb}
 use lib.ListN.{drop}
+use Rattle.node.specs.Layout.{shapeOf}
 use Rattle.model.specs.Words.{pick, part}
 use Rattle.model.specs.Prune.{Scan, on, scanLeaf}
 use Rattle.prefix.proofs.Scans.{told, turn-used, turn-page, turn-end, turn-on, turns-end}
@@ -14,7 +15,7 @@ use Rattle.prefix.proofs.scan_node.Statement.{statement}
 use Rattle.prefix.proofs.scan_node.Tie as tie
 
 abbrev Inv-loop : tie.InvT-loop
-Inv-loop l s n end ids place height count at₀ to₀ i₀ at to i = (i ≤ count) × (scanLeaf (l .capacity) s (end .0) (n .0) 0 count (on (drop at₀ ids) at₀ (to₀ .0)) ≡ scanLeaf (l .capacity) s (end .0) (n .0) i (count - i) (on (drop at ids) at (to .0)))
+Inv-loop l s n end ids place height count at₀ to₀ i₀ at to i = (i ≤ count) × (scanLeaf (shapeOf l) s (end .0) (n .0) 0 count (on (drop at₀ ids) at₀ (to₀ .0)) ≡ scanLeaf (shapeOf l) s (end .0) (n .0) i (count - i) (on (drop at ids) at (to .0)))
 
 abbrev μ-loop : tie.MeasureT-loop
 μ-loop l s n end ids place height count at₀ to₀ i₀ at to i = count - i
@@ -34,7 +35,7 @@ loop-holds c = (omega arith, rw sub-zero)
 returns-2 : tie.Need-returns-2 Inv-loop μ-loop
 returns-2 c =
     let a = c .before .before .before .before .before .before .before .before .args in
-    told (a .l .capacity) (a .s .now) (a .end .0) (a .n .0) (a .ids .now) (a .place) (a .reached .0) _ _ (c .before .before .before .before .before .part .ensures) (c .before .before .before .before .if1 .left) (c .before .before .before .part2 .ensures) (sym (c .before .before .loop .inv .1 ∙ turn-used (a .l .capacity) (a .s .now) (a .end .0) (a .ids .now) (a .n .0) (c .before .before .loop .i) _ (c .before .before .loop .at) (c .before .before .loop .to .0) (c .if2 .taken)))
+    told (shapeOf (a .l)) (a .s .now) (a .end .0) (a .n .0) (a .ids .now) (a .place) (a .reached .0) _ _ (c .before .before .before .before .before .part .ensures) (c .before .before .before .before .if1 .left) (c .before .before .before .part2 .ensures) (sym (c .before .before .loop .inv .1 ∙ turn-used (shapeOf (a .l)) (a .s .now) (a .end .0) (a .ids .now) (a .n .0) (c .before .before .loop .i) _ (c .before .before .loop .at) (c .before .before .loop .to .0) (c .if2 .taken)))
 
 page-requires : tie.Need-page-requires Inv-loop μ-loop
 page-requires c κs = search needs
@@ -48,7 +49,7 @@ shared-slice-read-if3 c = search needs
 returns-3 : tie.Need-returns-3 Inv-loop μ-loop
 returns-3 c =
     let a = c .before .before .before .before .before .before .before .before .before .before .before .before .args in
-    told (a .l .capacity) (a .s .now) (a .end .0) (a .n .0) (a .ids .now) (a .place) (a .reached .0) _ _ (c .before .before .before .before .before .before .before .before .before .part .ensures) (c .before .before .before .before .before .before .before .before .if1 .left) (c .before .before .before .before .before .before .before .part2 .ensures) (sym (c .before .before .before .before .before .before .loop .inv .1 ∙ turn-page (a .l .capacity) (a .s .now) (a .end .0) (a .ids .now) (a .n .0) (c .before .before .before .before .before .before .loop .i) _ (c .before .before .before .before .before .before .loop .at) (c .before .before .before .before .before .before .loop .to .0) (c .before .before .before .before .before .loop-test .taken) (c .before .before .before .before .if2 .left) (λ q. c .if3 .taken (c .before .before .before .page .ensures ∙ q))))
+    told (shapeOf (a .l)) (a .s .now) (a .end .0) (a .n .0) (a .ids .now) (a .place) (a .reached .0) _ _ (c .before .before .before .before .before .before .before .before .before .part .ensures) (c .before .before .before .before .before .before .before .before .if1 .left) (c .before .before .before .before .before .before .before .part2 .ensures) (sym (c .before .before .before .before .before .before .loop .inv .1 ∙ turn-page (shapeOf (a .l)) (a .s .now) (a .end .0) (a .ids .now) (a .n .0) (c .before .before .before .before .before .before .loop .i) _ (c .before .before .before .before .before .before .loop .at) (c .before .before .before .before .before .before .loop .to .0) (c .before .before .before .before .before .loop-test .taken) (c .before .before .before .before .if2 .left) (λ q. c .if3 .taken (c .before .before .before .page .ensures ∙ q))))
 
 entry-end-requires : tie.Need-entry-end-requires Inv-loop μ-loop
 entry-end-requires c κs = search needs
@@ -56,7 +57,7 @@ entry-end-requires c κs = search needs
 returns-4 : tie.Need-returns-4 Inv-loop μ-loop
 returns-4 c =
     let a = c .before .before .before .before .before .before .before .before .before .before .before .before .before .before .before .before .args in
-    told (a .l .capacity) (a .s .now) (a .end .0) (a .n .0) (a .ids .now) (a .place) (a .reached .0) _ _ (c .before .before .before .before .before .before .before .before .before .before .before .before .before .part .ensures) (c .before .before .before .before .before .before .before .before .before .before .before .before .if1 .left) (c .before .before .before .before .before .before .before .before .before .before .before .part2 .ensures) (sym (c .before .before .before .before .before .before .before .before .before .before .loop .inv .1 ∙ turn-end (a .l .capacity) (a .s .now) (a .end .0) (a .ids .now) (a .n .0) (c .before .before .before .before .before .before .before .before .before .before .loop .i) _ (c .before .before .before .before .before .before .before .before .before .before .loop .at) (c .before .before .before .before .before .before .before .before .before .before .loop .to .0) (c .before .before .before .before .before .before .before .before .before .loop-test .taken) (c .before .before .before .before .before .before .before .before .if2 .left) (sym (c .before .before .before .before .before .before .before .page .ensures) ∙ c .before .before .before .before .if3 .left) (rw (c .before .before .before .entry-end .ensures) at (c .if4 .taken))))
+    told (shapeOf (a .l)) (a .s .now) (a .end .0) (a .n .0) (a .ids .now) (a .place) (a .reached .0) _ _ (c .before .before .before .before .before .before .before .before .before .before .before .before .before .part .ensures) (c .before .before .before .before .before .before .before .before .before .before .before .before .if1 .left) (c .before .before .before .before .before .before .before .before .before .before .before .part2 .ensures) (sym (c .before .before .before .before .before .before .before .before .before .before .loop .inv .1 ∙ turn-end (shapeOf (a .l)) (a .s .now) (a .end .0) (a .ids .now) (a .n .0) (c .before .before .before .before .before .before .before .before .before .before .loop .i) _ (c .before .before .before .before .before .before .before .before .before .before .loop .at) (c .before .before .before .before .before .before .before .before .before .before .loop .to .0) (c .before .before .before .before .before .before .before .before .before .loop-test .taken) (c .before .before .before .before .before .before .before .before .if2 .left) (sym (c .before .before .before .before .before .before .before .page .ensures) ∙ c .before .before .before .before .if3 .left) (rw (c .before .before .before .entry-end .ensures) at (c .if4 .taken))))
 
 add-at : tie.Need-add-at Inv-loop μ-loop
 add-at c = search needs
@@ -70,12 +71,12 @@ loop-less c = search needs
 loop-again : tie.Need-loop-again Inv-loop μ-loop
 loop-again c =
     let a = c .before .before .before .before .before .before .before .before .before .before .before .before .before .before .before .before .args in
-    (omega arith, c .before .before .before .before .before .before .before .before .before .before .loop .inv .1 ∙ turn-on (a .l .capacity) (a .s .now) (a .end .0) (a .ids .now) (a .n .0) (c .before .before .before .before .before .before .before .before .before .before .loop .i) _ (c .before .before .before .before .before .before .before .before .before .before .loop .at) (c .before .before .before .before .before .before .before .before .before .before .loop .to .0) (c .before .before .before .before .before .before .before .before .before .loop-test .taken) (c .before .before .before .before .before .before .before .before .if2 .left) (sym (c .before .before .before .before .before .before .before .page .ensures) ∙ c .before .before .before .before .if3 .left) (rw (c .before .before .before .entry-end .ensures) at (c .if4 .left)) ∙ rw (c .before .before .before .entry-end .ensures))
+    (omega arith, c .before .before .before .before .before .before .before .before .before .before .loop .inv .1 ∙ turn-on (shapeOf (a .l)) (a .s .now) (a .end .0) (a .ids .now) (a .n .0) (c .before .before .before .before .before .before .before .before .before .before .loop .i) _ (c .before .before .before .before .before .before .before .before .before .before .loop .at) (c .before .before .before .before .before .before .before .before .before .before .loop .to .0) (c .before .before .before .before .before .before .before .before .before .loop-test .taken) (c .before .before .before .before .before .before .before .before .if2 .left) (sym (c .before .before .before .before .before .before .before .page .ensures) ∙ c .before .before .before .before .if3 .left) (rw (c .before .before .before .entry-end .ensures) at (c .if4 .left)) ∙ rw (c .before .before .before .entry-end .ensures))
 
 returns-5 : tie.Need-returns-5 Inv-loop μ-loop
 returns-5 c =
     let a = c .before .before .before .before .before .before .before .args in
-    told (a .l .capacity) (a .s .now) (a .end .0) (a .n .0) (a .ids .now) (a .place) (a .reached .0) _ _ (c .before .before .before .before .part .ensures) (c .before .before .before .if1 .left) (c .before .before .part2 .ensures) (sym (c .before .loop .inv .1 ∙ turns-end (a .l .capacity) (a .s .now) (a .end .0) (a .n .0) (c .before .loop .i) _ _ (c .loop-test .left)))
+    told (shapeOf (a .l)) (a .s .now) (a .end .0) (a .n .0) (a .ids .now) (a .place) (a .reached .0) _ _ (c .before .before .before .before .part .ensures) (c .before .before .before .if1 .left) (c .before .before .part2 .ensures) (sym (c .before .loop .inv .1 ∙ turns-end (shapeOf (a .l)) (a .s .now) (a .end .0) (a .n .0) (c .before .loop .i) _ _ (c .loop-test .left)))
 
 pub scan-node-spec : {M : Type 1} → statement M
 scan-node-spec =

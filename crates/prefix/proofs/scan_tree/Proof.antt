@@ -4,6 +4,7 @@ use mathlib.Core.List.{List, [], _∷_}
 use mathlib.Core.Bool.{true, false}
 use mathlib.Core.Path.{_≡_, refl, sym, ap, _∙_}
 use native.Mathlib.Omega.{arith}
+use Rattle.node.specs.Layout.{shapeOf}
 use Rattle.model.specs.Words.{part, height, count, start}
 use Rattle.model.specs.Tree.{Open}
 use Rattle.model.specs.Refusals.{refusal}
@@ -21,7 +22,7 @@ use Rattle.prefix.proofs.scan_tree.Tie as tie
 scan-node-requires : tie.Need-scan-node-requires
 scan-node-requires c κs =
     let a = c .before .before .args in
-    let C = a .l .capacity in
+    let C = shapeOf (a .l) in
     let w = a .s .now in
     let n = a .root .0 in
     let f = passes-fits false C w n (height C w n) (start C w n) Open (c .before .before .pre .1 .0 .2) in
@@ -39,18 +40,18 @@ enum-known-p c = search needs
 scan-below-requires : tie.Need-scan-below-requires
 scan-below-requires c κs =
     let a = c .before .before .before .before .before .before .args in
-    (c .before .before .before .before .before .before .pre .0, (root-valid false (a .l .capacity) (a .l .pool) (a .s .now) (a .root .0) (c .before .before .before .before .before .before .pre .1 .0 .1) (c .before .before .before .before .before .before .pre .1 .0 .0) (c .before .before .before .before .before .before .pre .1 .0 .2), (c .before .before .before .before .before .before .pre .1 .1 .0, (root-passed (a .l .capacity) (a .l .pool) (a .s .now) (a .end .0) (a .root .0) (c .before .before .before .before .before .before .pre .1 .0 .0) (c .before .before .before .before .before .before .pre .1 .0 .2), root-last (a .l .capacity) (a .l .pool) (a .s .now) (a .end .0) (a .root .0) (c .before .before .before .before .before .before .pre .1 .0 .0) (c .before .before .before .before .before .before .pre .1 .0 .2) (a .ids .now) _ _ (sym (ap (progressOf (a .ids .now)) (c .before .p .given .1)) ∙ c .before .before .before .scan-node .ensures) (c .before .before .before .before .before .before .pre .1 .1 .1)))))
+    (c .before .before .before .before .before .before .pre .0, (root-valid false (shapeOf (a .l)) (a .l .pool) (a .s .now) (a .root .0) (c .before .before .before .before .before .before .pre .1 .0 .1) (c .before .before .before .before .before .before .pre .1 .0 .0) (c .before .before .before .before .before .before .pre .1 .0 .2), (c .before .before .before .before .before .before .pre .1 .1 .0, (root-passed (shapeOf (a .l)) (a .l .pool) (a .s .now) (a .end .0) (a .root .0) (c .before .before .before .before .before .before .pre .1 .0 .0) (c .before .before .before .before .before .before .pre .1 .0 .2), root-last (shapeOf (a .l)) (a .l .pool) (a .s .now) (a .end .0) (a .root .0) (c .before .before .before .before .before .before .pre .1 .0 .0) (c .before .before .before .before .before .before .pre .1 .0 .2) (a .ids .now) _ _ (sym (ap (progressOf (a .ids .now)) (c .before .p .given .1)) ∙ c .before .before .before .scan-node .ensures) (c .before .before .before .before .before .before .pre .1 .1 .1)))))
 
 returns : tie.Need-returns
 unfolding Ending
 returns c =
     let a = c .before .before .before .before .before .before .before .args in
-    (tree-stopped (a .l .capacity) (a .l .pool) (a .s .now) (a .end .0) (a .root .0) (c .before .before .before .before .before .before .before .pre .1 .0 .0) (c .before .before .before .before .before .before .before .pre .1 .0 .2) (a .ids .now) (refusal (c .before .before .r .given .0 .0)) (sym (ap (progressOf (a .ids .now)) (c .before .before .r .given .1)) ∙ c .before .before .before .before .scan-node .ensures), tt)
+    (tree-stopped (shapeOf (a .l)) (a .l .pool) (a .s .now) (a .end .0) (a .root .0) (c .before .before .before .before .before .before .before .pre .1 .0 .0) (c .before .before .before .before .before .before .before .pre .1 .0 .2) (a .ids .now) (refusal (c .before .before .r .given .0 .0)) (sym (ap (progressOf (a .ids .now)) (c .before .before .r .given .1)) ∙ c .before .before .before .before .scan-node .ensures), tt)
 
 returns-2 : tie.Need-returns-2
 returns-2 c =
     let a = c .before .before .before .before .before .before .before .args in
-    let C = a .l .capacity in
+    let C = shapeOf (a .l) in
     let w = a .s .now in
     let n = a .root .0 in (
       c .scan-below .ensures .0

@@ -1,6 +1,7 @@
 use borrow.Author.Needs.{needs}
 use mathlib.Core.Path.{sym, ap, _∙_}
 use native.Mathlib.Omega.{arith}
+use Rattle.node.specs.Layout.{shapeOf}
 use Rattle.model.specs.Refusals.{Outcome}
 use Rattle.edge.proofs.Climbs.{node-in}
 use Rattle.prune.proofs.Edges.{whole-is, stays-is}
@@ -17,7 +18,7 @@ element-copy-out-last : tie.Need-element-copy-out-last
 element-copy-out-last c = search needs
 
 part-requires : tie.Need-part-requires
-part-requires c κs = let a = c .before .before .before .before .args in (c .before .before .before .before .pre .0 .header, (node-in (a .h .layout .capacity) (a .h .layout .pool) (a .s .now) (a .end .0) (a .h .root .0) (a .t5) (c .before .before .before .before .pre .1 .climbed), omega arith))
+part-requires c κs = let a = c .before .before .before .before .args in (c .before .before .before .before .pre .0 .header, (node-in (shapeOf (a .h .layout)) (a .h .layout .pool) (a .s .now) (a .end .0) (a .h .root .0) (a .t5) (c .before .before .before .before .pre .1 .climbed), omega arith))
 
 prune-all-requires : tie.Need-prune-all-requires
 prune-all-requires c κs = (c .before .before .before .before .before .before .before .pre .0, (c .before .before .before .before .before .before .before .pre .1, rw (c .before .before .part .ensures) at (c .before .if1 .taken)))
@@ -28,7 +29,7 @@ same-length c = search needs
 returns : tie.Need-returns
 returns c =
     let a = c .before .before .before .before .before .before .before .before .before .before .args in
-    let e = whole-is (a .h .layout .capacity) (a .h .layout .pool) (a .s .now) (a .end .0) (a .h .root .0) (a .h .«free_count») (a .t5) (c .before .before .before .before .before .before .before .before .before .before .pre .0) (c .before .before .before .before .before .before .before .before .before .before .pre .1) (rw (c .before .before .before .before .before .part .ensures) at (c .before .before .before .before .if1 .taken)) (a .k) in
+    let e = whole-is (shapeOf (a .h .layout)) (a .h .layout .pool) (a .s .now) (a .end .0) (a .h .root .0) (a .h .«free_count») (a .t5) (c .before .before .before .before .before .before .before .before .before .before .pre .0) (c .before .before .before .before .before .before .before .before .before .before .pre .1) (rw (c .before .before .before .before .before .part .ensures) at (c .before .before .before .before .if1 .taken)) (a .k) in
     (c .before .before .prune-all .ensures .0 ∙ sym (ap (λ (o : Outcome). o .answer) e), c .before .before .prune-all .ensures .1 ∙ sym (ap (λ (o : Outcome). o .words) e))
 
 prune-some-requires : tie.Need-prune-some-requires
@@ -40,7 +41,7 @@ same-length-2 c = search needs
 returns-2 : tie.Need-returns-2
 returns-2 c =
     let a = c .before .before .before .before .before .before .before .before .before .before .args in
-    let e = stays-is (a .h .layout .capacity) (a .h .layout .pool) (a .s .now) (a .end .0) (a .h .root .0) (a .h .«free_count») (a .t5) (c .before .before .before .before .before .before .before .before .before .before .pre .0) (c .before .before .before .before .before .before .before .before .before .before .pre .1) (rw (c .before .before .before .before .before .part .ensures) at (c .before .before .before .before .if1 .left)) (a .k) in
+    let e = stays-is (shapeOf (a .h .layout)) (a .h .layout .pool) (a .s .now) (a .end .0) (a .h .root .0) (a .h .«free_count») (a .t5) (c .before .before .before .before .before .before .before .before .before .before .pre .0) (c .before .before .before .before .before .before .before .before .before .before .pre .1) (rw (c .before .before .before .before .before .part .ensures) at (c .before .before .before .before .if1 .left)) (a .k) in
     (c .before .before .prune-some .ensures .0 ∙ sym (ap (λ (o : Outcome). o .answer) e), c .before .before .prune-some .ensures .1 ∙ sym (ap (λ (o : Outcome). o .words) e))
 
 pub prune-edge-spec : {M : Type 1} → statement M

@@ -2,6 +2,7 @@ use borrow.Author.Needs.{needs}
 use mathlib.Core.Path.{sym, ap, _∙_}
 use native.Mathlib.Omega.{arith}
 use borrow.Author.Tests.{not-true, not-false}
+use Rattle.node.specs.Layout.{shapeOf}
 use Rattle.model.specs.Refusals.{Outcome, refused}
 use Rattle.prune.proofs.Deciding.{empty-other, empty-start}
 use Rattle.prune.proofs.prune_open.Statement.{statement}
@@ -29,7 +30,7 @@ returns-2 : tie.Need-returns-2
 returns-2 c =
     let a = c .before .before .before .before .before .before .before .before .before .args in
     let q = c .before .before .part .ensures in
-    let e = empty-other (a .h .layout .capacity) (a .h .layout .pool) (a .s .now) (a .h .root .0) (a .start .0) (a .end .0) (a .ids .now) (sym (c .before .before .before .before .before .is-empty-root .ensures) ∙ not-false _ (c .before .before .before .before .if1 .left)) (rw q at (c .if2 .taken)) in
+    let e = empty-other (shapeOf (a .h .layout)) (a .h .layout .pool) (a .s .now) (a .h .root .0) (a .start .0) (a .end .0) (a .ids .now) (sym (c .before .before .before .before .before .is-empty-root .ensures) ∙ not-false _ (c .before .before .before .before .if1 .left)) (rw q at (c .if2 .taken)) in
     (ap (refused 8) q ∙ sym (ap (λ (o : Outcome). o .answer) e), sym (ap (λ (o : Outcome). o .words) e))
 
 same-length-3 : tie.Need-same-length-3
@@ -38,7 +39,7 @@ same-length-3 c = search needs
 returns-3 : tie.Need-returns-3
 returns-3 c =
     let a = c .before .before .before .before .before .before .before .before .before .args in
-    let e = empty-start (a .h .layout .capacity) (a .h .layout .pool) (a .s .now) (a .h .root .0) (a .start .0) (a .end .0) (a .ids .now) (sym (c .before .before .before .before .before .is-empty-root .ensures) ∙ not-false _ (c .before .before .before .before .if1 .left)) (rw (c .before .before .part .ensures) at (c .if2 .left)) in
+    let e = empty-start (shapeOf (a .h .layout)) (a .h .layout .pool) (a .s .now) (a .h .root .0) (a .start .0) (a .end .0) (a .ids .now) (sym (c .before .before .before .before .before .is-empty-root .ensures) ∙ not-false _ (c .before .before .before .before .if1 .left)) (rw (c .before .before .part .ensures) at (c .if2 .left)) in
     (sym (ap (λ (o : Outcome). o .answer) e), sym (ap (λ (o : Outcome). o .words) e))
 
 pub prune-open-spec : {M : Type 1} → statement M

@@ -3,6 +3,7 @@ use Prim.Native.Nat.{_+_, _<_, _≤_}
 use mathlib.Core.Path.{_≡_, sym, ap, _∙_}
 use native.Mathlib.Omega.{arith}
 use lib.ListN.{length}
+use Rattle.node.specs.Layout.{shapeOf}
 use Rattle.model.specs.Words.{freeCount}
 use Rattle.model.specs.Prune.{Copies}
 use Rattle.model.specs.Refusals.{Outcome}
@@ -19,7 +20,7 @@ find-copies-requires c κs =
     let a = c .before .before .before .before .args in
     let R = c .before .before .before .before .pre .0 in
     let E = c .before .before .before .before .pre .1 .0 in
-    (R .header, ((E .climbed .low, E .climbed .long, edge-ahead (a .h .layout .capacity) (a .h .layout .pool) (a .s .now) (a .end .0) (a .h .root .0) (a .edge) (E .climbed)), (R .inside, R .low, R .good)))
+    (R .header, ((E .climbed .low, E .climbed .long, edge-ahead (shapeOf (a .h .layout)) (a .h .layout .pool) (a .s .now) (a .end .0) (a .h .root .0) (a .edge) (E .climbed)), (R .inside, R .low, R .good)))
 
 enum-known-tested : tie.Need-enum-known-tested
 enum-known-tested c = search needs
@@ -32,9 +33,9 @@ returns c =
     let a = c .before .before .before .before .before .before .before .before .args in
     let R = c .before .before .before .before .before .before .before .before .pre .0 in
     let E = c .before .before .before .before .before .before .before .before .pre .1 .0 in
-    let G = leftOf (a .h .layout .capacity) (a .s .now) (a .edge) in
-    let q = found-unsound (a .h .layout .capacity) (a .h .layout .pool) (a .s .now) (a .end .0) (a .h .root .0) (a .h .«free_count») (a .edge) R E (c .before .before .before .before .before .before .before .before .pre .1 .1) _ (c .before .before .before .find-copies .ensures .0) _ (c .before .tested .given .1) in
-    let e = ap (cutTo (a .h .layout .capacity) (a .h .layout .pool) (a .s .now) (a .h .root .0) (a .end .0) (a .k) (trimsOf (a .edge)) G) q ∙ cut-unsound (a .h .layout .capacity) (a .h .layout .pool) (a .s .now) (a .h .root .0) (a .end .0) (a .k) G (trimsOf (a .edge)) _ in
+    let G = leftOf (shapeOf (a .h .layout)) (a .s .now) (a .edge) in
+    let q = found-unsound (shapeOf (a .h .layout)) (a .h .layout .pool) (a .s .now) (a .end .0) (a .h .root .0) (a .h .«free_count») (a .edge) R E (c .before .before .before .before .before .before .before .before .pre .1 .1) _ (c .before .before .before .find-copies .ensures .0) _ (c .before .tested .given .1) in
+    let e = ap (cutTo (shapeOf (a .h .layout)) (a .h .layout .pool) (a .s .now) (a .h .root .0) (a .end .0) (a .k) (trimsOf (a .edge)) G) q ∙ cut-unsound (shapeOf (a .h .layout)) (a .h .layout .pool) (a .s .now) (a .h .root .0) (a .end .0) (a .k) G (trimsOf (a .edge)) _ in
     (sym (ap (λ (o : Outcome). o .answer) e), sym (ap (λ (o : Outcome). o .words) e))
 
 enum-told : tie.Need-enum-told
@@ -48,7 +49,7 @@ count-gone-requires c κs =
     let a = c .before .before .before .before .before .before .before .before .before .before .args in
     let R = c .before .before .before .before .before .before .before .before .before .before .pre .0 in
     let E = c .before .before .before .before .before .before .before .before .before .before .pre .1 .0 in
-    (R .header, ((omega (arith, R .free, R .free-in, R .header .pool-high), E .climbed .low, E .climbed .long, edge-ahead (a .h .layout .capacity) (a .h .layout .pool) (a .s .now) (a .end .0) (a .h .root .0) (a .edge) (E .climbed)), found-spine (a .h .layout .capacity) (a .h .layout .pool) (a .s .now) (a .end .0) (a .h .root .0) (a .h .«free_count») (a .edge) R E))
+    (R .header, ((omega (arith, R .free, R .free-in, R .header .pool-high), E .climbed .low, E .climbed .long, edge-ahead (shapeOf (a .h .layout)) (a .h .layout .pool) (a .s .now) (a .end .0) (a .h .root .0) (a .edge) (E .climbed)), found-spine (shapeOf (a .h .layout)) (a .h .layout .pool) (a .s .now) (a .end .0) (a .h .root .0) (a .h .«free_count») (a .edge) R E))
 
 same-length-2 : tie.Need-same-length-2
 same-length-2 c = search needs
@@ -58,9 +59,9 @@ returns-2 c =
     let a = c .before .before .before .before .before .before .before .before .before .before .before .before .args in
     let R = c .before .before .before .before .before .before .before .before .before .before .before .before .pre .0 in
     let E = c .before .before .before .before .before .before .before .before .before .before .before .before .pre .1 .0 in
-    let G = leftOf (a .h .layout .capacity) (a .s .now) (a .edge) in
-    let q = found-sound (a .h .layout .capacity) (a .h .layout .pool) (a .s .now) (a .end .0) (a .h .root .0) (a .h .«free_count») (a .edge) R E (c .before .before .before .before .before .before .before .before .before .before .before .before .pre .1 .1) _ (c .before .before .before .before .before .before .before .find-copies .ensures .0) (c .before .before .before .before .before .enum-told .given .1) in
-    let e = ap (cutTo (a .h .layout .capacity) (a .h .layout .pool) (a .s .now) (a .h .root .0) (a .end .0) (a .k) (trimsOf (a .edge)) G) q ∙ cut-full (a .h .layout .capacity) (a .h .layout .pool) (a .s .now) (a .h .root .0) (a .end .0) (a .k) G (trimsOf (a .edge)) _ _ (omega (arith, c .if1 .taken, c .before .count-gone .ensures, R .free, R .free-in)) in
+    let G = leftOf (shapeOf (a .h .layout)) (a .s .now) (a .edge) in
+    let q = found-sound (shapeOf (a .h .layout)) (a .h .layout .pool) (a .s .now) (a .end .0) (a .h .root .0) (a .h .«free_count») (a .edge) R E (c .before .before .before .before .before .before .before .before .before .before .before .before .pre .1 .1) _ (c .before .before .before .before .before .before .before .find-copies .ensures .0) (c .before .before .before .before .before .enum-told .given .1) in
+    let e = ap (cutTo (shapeOf (a .h .layout)) (a .h .layout .pool) (a .s .now) (a .h .root .0) (a .end .0) (a .k) (trimsOf (a .edge)) G) q ∙ cut-full (shapeOf (a .h .layout)) (a .h .layout .pool) (a .s .now) (a .h .root .0) (a .end .0) (a .k) G (trimsOf (a .edge)) _ _ (omega (arith, c .if1 .taken, c .before .count-gone .ensures, R .free, R .free-in)) in
     (sym (ap (λ (o : Outcome). o .answer) e), sym (ap (λ (o : Outcome). o .words) e))
 
 add-freed : tie.Need-add-freed
@@ -74,9 +75,9 @@ returns-3 c =
     let a = c .before .before .before .before .before .before .before .before .before .before .before .before .before .args in
     let R = c .before .before .before .before .before .before .before .before .before .before .before .before .before .pre .0 in
     let E = c .before .before .before .before .before .before .before .before .before .before .before .before .before .pre .1 .0 in
-    let G = leftOf (a .h .layout .capacity) (a .s .now) (a .edge) in
-    let q = found-sound (a .h .layout .capacity) (a .h .layout .pool) (a .s .now) (a .end .0) (a .h .root .0) (a .h .«free_count») (a .edge) R E (c .before .before .before .before .before .before .before .before .before .before .before .before .before .pre .1 .1) _ (c .before .before .before .before .before .before .before .before .find-copies .ensures .0) (c .before .before .before .before .before .before .enum-told .given .1) in
-    let e = ap (cutTo (a .h .layout .capacity) (a .h .layout .pool) (a .s .now) (a .h .root .0) (a .end .0) (a .k) (trimsOf (a .edge)) G) q ∙ cut-full (a .h .layout .capacity) (a .h .layout .pool) (a .s .now) (a .h .root .0) (a .end .0) (a .k) G (trimsOf (a .edge)) _ _ (omega (arith, c .if2 .taken, c .before .before .count-gone .ensures, R .free, R .free-in)) in
+    let G = leftOf (shapeOf (a .h .layout)) (a .s .now) (a .edge) in
+    let q = found-sound (shapeOf (a .h .layout)) (a .h .layout .pool) (a .s .now) (a .end .0) (a .h .root .0) (a .h .«free_count») (a .edge) R E (c .before .before .before .before .before .before .before .before .before .before .before .before .before .pre .1 .1) _ (c .before .before .before .before .before .before .before .before .find-copies .ensures .0) (c .before .before .before .before .before .before .enum-told .given .1) in
+    let e = ap (cutTo (shapeOf (a .h .layout)) (a .h .layout .pool) (a .s .now) (a .h .root .0) (a .end .0) (a .k) (trimsOf (a .edge)) G) q ∙ cut-full (shapeOf (a .h .layout)) (a .h .layout .pool) (a .s .now) (a .h .root .0) (a .end .0) (a .k) G (trimsOf (a .edge)) _ _ (omega (arith, c .if2 .taken, c .before .before .count-gone .ensures, R .free, R .free-in)) in
     (sym (ap (λ (o : Outcome). o .answer) e), sym (ap (λ (o : Outcome). o .words) e))
 
 write-edge-requires : tie.Need-write-edge-requires
@@ -84,9 +85,9 @@ write-edge-requires c κs =
     let a = c .before .before .before .before .before .before .before .before .before .before .before .before .before .before .before .args in
     let R = c .before .before .before .before .before .before .before .before .before .before .before .before .before .before .before .pre .0 in
     let E = c .before .before .before .before .before .before .before .before .before .before .before .before .before .before .before .pre .1 .0 in
-    let G = leftOf (a .h .layout .capacity) (a .s .now) (a .edge) in
-    let q = found-sound (a .h .layout .capacity) (a .h .layout .pool) (a .s .now) (a .end .0) (a .h .root .0) (a .h .«free_count») (a .edge) R E (c .before .before .before .before .before .before .before .before .before .before .before .before .before .before .before .pre .1 .1) _ (c .before .before .before .before .before .before .before .before .before .before .find-copies .ensures .0) (c .before .before .before .before .before .before .before .before .enum-told .given .1) in
-    writable (a .h .layout .capacity) (a .h .layout .pool) (a .s .now) (a .end .0) (a .h .root .0) (a .h .«free_count») (a .edge) R E (c .before .before .before .before .before .before .before .before .before .before .before .before .before .before .before .pre .1 .1) _ _ (c .before .before .before .before .before .before .before .before .before .before .find-copies .ensures .1 .0) (c .before .before .before .before .before .before .before .before .before .before .find-copies .ensures .1 .1) q (omega (arith, c .before .before .if2 .left, c .before .before .before .before .count-gone .ensures, R .free, R .free-in))
+    let G = leftOf (shapeOf (a .h .layout)) (a .s .now) (a .edge) in
+    let q = found-sound (shapeOf (a .h .layout)) (a .h .layout .pool) (a .s .now) (a .end .0) (a .h .root .0) (a .h .«free_count») (a .edge) R E (c .before .before .before .before .before .before .before .before .before .before .before .before .before .before .before .pre .1 .1) _ (c .before .before .before .before .before .before .before .before .before .before .find-copies .ensures .0) (c .before .before .before .before .before .before .before .before .enum-told .given .1) in
+    writable (shapeOf (a .h .layout)) (a .h .layout .pool) (a .s .now) (a .end .0) (a .h .root .0) (a .h .«free_count») (a .edge) R E (c .before .before .before .before .before .before .before .before .before .before .before .before .before .before .before .pre .1 .1) _ _ (c .before .before .before .before .before .before .before .before .before .before .find-copies .ensures .1 .0) (c .before .before .before .before .before .before .before .before .before .before .find-copies .ensures .1 .1) q (omega (arith, c .before .before .if2 .left, c .before .before .before .before .count-gone .ensures, R .free, R .free-in))
 
 same-length-4 : tie.Need-same-length-4
 same-length-4 c = search needs
@@ -96,10 +97,10 @@ returns-4 c =
     let a = c .before .before .before .before .before .before .before .before .before .before .before .before .before .before .before .before .before .before .args in
     let R = c .before .before .before .before .before .before .before .before .before .before .before .before .before .before .before .before .before .before .pre .0 in
     let E = c .before .before .before .before .before .before .before .before .before .before .before .before .before .before .before .before .before .before .pre .1 .0 in
-    let G = leftOf (a .h .layout .capacity) (a .s .now) (a .edge) in
-    let q = found-sound (a .h .layout .capacity) (a .h .layout .pool) (a .s .now) (a .end .0) (a .h .root .0) (a .h .«free_count») (a .edge) R E (c .before .before .before .before .before .before .before .before .before .before .before .before .before .before .before .before .before .before .pre .1 .1) _ (c .before .before .before .before .before .before .before .before .before .before .before .before .before .find-copies .ensures .0) (c .before .before .before .before .before .before .before .before .before .before .before .enum-told .given .1) in
+    let G = leftOf (shapeOf (a .h .layout)) (a .s .now) (a .edge) in
+    let q = found-sound (shapeOf (a .h .layout)) (a .h .layout .pool) (a .s .now) (a .end .0) (a .h .root .0) (a .h .«free_count») (a .edge) R E (c .before .before .before .before .before .before .before .before .before .before .before .before .before .before .before .before .before .before .pre .1 .1) _ (c .before .before .before .before .before .before .before .before .before .before .before .before .before .find-copies .ensures .0) (c .before .before .before .before .before .before .before .before .before .before .before .enum-told .given .1) in
     let g = c .before .before .before .before .before .before .before .count-gone .ensures in
-    let e = ap (cutTo (a .h .layout .capacity) (a .h .layout .pool) (a .s .now) (a .h .root .0) (a .end .0) (a .k) (trimsOf (a .edge)) G) q ∙ cut-done (a .h .layout .capacity) (a .h .layout .pool) (a .s .now) (a .h .root .0) (a .end .0) (a .k) G (trimsOf (a .edge)) _ _ (omega (arith, c .before .before .before .before .before .if2 .left, g, R .free, R .free-in)) in
+    let e = ap (cutTo (shapeOf (a .h .layout)) (a .h .layout .pool) (a .s .now) (a .h .root .0) (a .end .0) (a .k) (trimsOf (a .edge)) G) q ∙ cut-done (shapeOf (a .h .layout)) (a .h .layout .pool) (a .s .now) (a .h .root .0) (a .end .0) (a .k) G (trimsOf (a .edge)) _ _ (omega (arith, c .before .before .before .before .before .if2 .left, g, R .free, R .free-in)) in
     (rw g (sym (ap (λ (o : Outcome). o .answer) e)), c .before .before .write-edge .ensures ∙ sym (ap (λ (o : Outcome). o .words) e))
 
 pub prune-some-spec : {M : Type 1} → statement M

@@ -3,6 +3,7 @@ use Prim.Native.Nat.{ℕ, _+_, _*_, _-_, _<_, _≤_}
 use mathlib.Core.Path.{_≡_, refl, sym, ap, _∙_}
 use native.Mathlib.Omega.{arith}
 use lib.ListN.{length}
+use Rattle.node.specs.Layout.{shapeOf}
 use Rattle.model.specs.Reading.{rootNodes}
 use Rattle.model.specs.Words.{part, height, child}
 use Rattle.reap.specs.Spine.{nodesAt, Beside}
@@ -12,7 +13,7 @@ use Rattle.reap.proofs.count_children.Statement.{statement}
 use Rattle.reap.proofs.count_children.Tie as tie
 
 abbrev Inv-loop : tie.InvT-loop
-Inv-loop l s n k height sum₀ i₀ sum i = (i ≤ k) × (sum ≤ i * 65535) × (sum ≡ length (nodesAt (l .capacity) s height (n .0) 0 i))
+Inv-loop l s n k height sum₀ i₀ sum i = (i ≤ k) × (sum ≤ i * 65535) × (sum ≡ length (nodesAt (shapeOf l) s height (n .0) 0 i))
 
 abbrev μ-loop : tie.MeasureT-loop
 μ-loop l s n k height sum₀ i₀ sum i = k - i
@@ -21,19 +22,19 @@ part-requires : tie.Need-part-requires Inv-loop μ-loop
 part-requires c κs = (c .before .pre .0, (c .before .pre .1 .1 .inside, omega arith))
 
 returns : tie.Need-returns Inv-loop μ-loop
-returns c = let a = c .before .before .before .args in (sym (ap (λ ns. length ns) (no-nodes (a .l .capacity) (a .s .now) (height (a .l .capacity) (a .s .now) (a .n .0)) (a .n .0) 0 (a .k) (sym (c .before .part .ensures) ∙ c .if1 .taken))), omega arith)
+returns c = let a = c .before .before .before .args in (sym (ap (λ ns. length ns) (no-nodes (shapeOf (a .l)) (a .s .now) (height (shapeOf (a .l)) (a .s .now) (a .n .0)) (a .n .0) 0 (a .k) (sym (c .before .part .ensures) ∙ c .if1 .taken))), omega arith)
 
 loop-holds : tie.Need-loop-holds Inv-loop μ-loop
-loop-holds c = let a = c .before .before .before .args in (omega arith, omega arith, sym (no-pairs (a .l .capacity) (a .l .pool) (a .s .now) (c .before .before .before .pre .0) (c .before .before .before .pre .1 .0) (a .n .0) (a .k) (c .before .part .result)))
+loop-holds c = let a = c .before .before .before .args in (omega arith, omega arith, sym (no-pairs (shapeOf (a .l)) (a .l .pool) (a .s .now) (c .before .before .before .pre .0) (c .before .before .before .pre .1 .0) (a .n .0) (a .k) (c .before .part .result)))
 
 child-requires : tie.Need-child-requires Inv-loop μ-loop
 child-requires c κs = (c .before .before .before .before .before .pre .0, (c .before .before .before .before .before .pre .1 .1 .inside, omega (arith, c .before .before .before .before .before .pre .1 .1 .within, c .before .before .before .before .before .pre .1 .1 .narrow, c .loop-test .taken)))
 
 count-nodes-requires : tie.Need-count-nodes-requires Inv-loop μ-loop
-count-nodes-requires c κs = let a = c .before .before .before .before .before .before .args in let kid : Child (a .l .capacity) (a .l .pool) (a .s .now) (c .before .before .before .before .part .result) (a .n .0) (c .before .before .loop .i) = child-of (a .l .capacity) (a .l .pool) (a .s .now) (c .before .before .before .before .before .before .pre .0) (c .before .before .before .before .before .before .pre .1 .0) (a .n .0) (a .k) (c .before .before .before .before .part .result) (omega (arith, c .before .before .before .if1 .left)) (rw (c .before .before .before .before .part .ensures) (c .before .before .before .before .before .before .pre .1 .1)) (c .before .before .loop .i) (c .before .loop-test .taken) in rw (c .child .ensures) (kid .ready, (kid .good, kid .few))
+count-nodes-requires c κs = let a = c .before .before .before .before .before .before .args in let kid : Child (shapeOf (a .l)) (a .l .pool) (a .s .now) (c .before .before .before .before .part .result) (a .n .0) (c .before .before .loop .i) = child-of (shapeOf (a .l)) (a .l .pool) (a .s .now) (c .before .before .before .before .before .before .pre .0) (c .before .before .before .before .before .before .pre .1 .0) (a .n .0) (a .k) (c .before .before .before .before .part .result) (omega (arith, c .before .before .before .if1 .left)) (rw (c .before .before .before .before .part .ensures) (c .before .before .before .before .before .before .pre .1 .1)) (c .before .before .loop .i) (c .before .loop-test .taken) in rw (c .child .ensures) (kid .ready, (kid .good, kid .few))
 
 add-sum : tie.Need-add-sum Inv-loop μ-loop
-add-sum c = let a = c .before .before .before .before .before .before .before .args in let kid : Child (a .l .capacity) (a .l .pool) (a .s .now) (c .before .before .before .before .before .part .result) (a .n .0) (c .before .before .before .loop .i) = child-of (a .l .capacity) (a .l .pool) (a .s .now) (c .before .before .before .before .before .before .before .pre .0) (c .before .before .before .before .before .before .before .pre .1 .0) (a .n .0) (a .k) (c .before .before .before .before .before .part .result) (omega (arith, c .before .before .before .before .if1 .left)) (rw (c .before .before .before .before .before .part .ensures) (c .before .before .before .before .before .before .before .pre .1 .1)) (c .before .before .before .loop .i) (c .before .before .loop-test .taken) in omega (arith, c .before .before .before .loop .inv .1, c .before .before .loop-test .taken, c .count-nodes .ensures, ap (λ (x : ℕ). length (rootNodes (a .l .capacity) (a .s .now) x)) (c .before .child .ensures), kid .few, c .before .before .before .before .before .before .before .pre .1 .1 .within, c .before .before .before .before .before .before .before .pre .1 .1 .narrow, c .before .before .before .before .before .before .before .pre .0 .cap-high)
+add-sum c = let a = c .before .before .before .before .before .before .before .args in let kid : Child (shapeOf (a .l)) (a .l .pool) (a .s .now) (c .before .before .before .before .before .part .result) (a .n .0) (c .before .before .before .loop .i) = child-of (shapeOf (a .l)) (a .l .pool) (a .s .now) (c .before .before .before .before .before .before .before .pre .0) (c .before .before .before .before .before .before .before .pre .1 .0) (a .n .0) (a .k) (c .before .before .before .before .before .part .result) (omega (arith, c .before .before .before .before .if1 .left)) (rw (c .before .before .before .before .before .part .ensures) (c .before .before .before .before .before .before .before .pre .1 .1)) (c .before .before .before .loop .i) (c .before .before .loop-test .taken) in omega (arith, c .before .before .before .loop .inv .1, c .before .before .loop-test .taken, c .count-nodes .ensures, ap (λ (x : ℕ). length (rootNodes (shapeOf (a .l)) (a .s .now) x)) (c .before .child .ensures), kid .few, c .before .before .before .before .before .before .before .pre .1 .1 .within, c .before .before .before .before .before .before .before .pre .1 .1 .narrow, c .before .before .before .before .before .before .before .pre .0 .cap-high)
 
 add-i : tie.Need-add-i Inv-loop μ-loop
 add-i c = search needs
@@ -42,16 +43,16 @@ loop-less : tie.Need-loop-less Inv-loop μ-loop
 loop-less c = search needs
 
 loop-again : tie.Need-loop-again Inv-loop μ-loop
-loop-again c = let a = c .before .before .before .before .before .before .before .args in let kid : Child (a .l .capacity) (a .l .pool) (a .s .now) (c .before .before .before .before .before .part .result) (a .n .0) (c .before .before .before .loop .i) = child-of (a .l .capacity) (a .l .pool) (a .s .now) (c .before .before .before .before .before .before .before .pre .0) (c .before .before .before .before .before .before .before .pre .1 .0) (a .n .0) (a .k) (c .before .before .before .before .before .part .result) (omega (arith, c .before .before .before .before .if1 .left)) (rw (c .before .before .before .before .before .part .ensures) (c .before .before .before .before .before .before .before .pre .1 .1)) (c .before .before .before .loop .i) (c .before .before .loop-test .taken) in
-    let some : c .count-nodes .result ≡ length (rootNodes (a .l .capacity) (a .s .now) (child (a .l .capacity) (a .s .now) (a .n .0) (c .before .before .before .loop .i))) = c .count-nodes .ensures ∙ ap (λ (x : ℕ). length (rootNodes (a .l .capacity) (a .s .now) x)) (c .before .child .ensures) in
-    let same : length (nodesAt (a .l .capacity) (a .s .now) (c .before .before .before .before .before .part .result) (a .n .0) 0 (c .before .before .before .loop .i + 1)) ≡ length (nodesAt (a .l .capacity) (a .s .now) (c .before .before .before .before .before .part .result) (a .n .0) 0 (c .before .before .before .loop .i)) + length (rootNodes (a .l .capacity) (a .s .now) (child (a .l .capacity) (a .s .now) (a .n .0) (c .before .before .before .loop .i))) = kid .adds in
+loop-again c = let a = c .before .before .before .before .before .before .before .args in let kid : Child (shapeOf (a .l)) (a .l .pool) (a .s .now) (c .before .before .before .before .before .part .result) (a .n .0) (c .before .before .before .loop .i) = child-of (shapeOf (a .l)) (a .l .pool) (a .s .now) (c .before .before .before .before .before .before .before .pre .0) (c .before .before .before .before .before .before .before .pre .1 .0) (a .n .0) (a .k) (c .before .before .before .before .before .part .result) (omega (arith, c .before .before .before .before .if1 .left)) (rw (c .before .before .before .before .before .part .ensures) (c .before .before .before .before .before .before .before .pre .1 .1)) (c .before .before .before .loop .i) (c .before .before .loop-test .taken) in
+    let some : c .count-nodes .result ≡ length (rootNodes (shapeOf (a .l)) (a .s .now) (child (shapeOf (a .l)) (a .s .now) (a .n .0) (c .before .before .before .loop .i))) = c .count-nodes .ensures ∙ ap (λ (x : ℕ). length (rootNodes (shapeOf (a .l)) (a .s .now) x)) (c .before .child .ensures) in
+    let same : length (nodesAt (shapeOf (a .l)) (a .s .now) (c .before .before .before .before .before .part .result) (a .n .0) 0 (c .before .before .before .loop .i + 1)) ≡ length (nodesAt (shapeOf (a .l)) (a .s .now) (c .before .before .before .before .before .part .result) (a .n .0) 0 (c .before .before .before .loop .i)) + length (rootNodes (shapeOf (a .l)) (a .s .now) (child (shapeOf (a .l)) (a .s .now) (a .n .0) (c .before .before .before .loop .i))) = kid .adds in
     (omega (arith, c .before .before .loop-test .taken), omega (arith, c .before .before .before .loop .inv .1, some, kid .few), omega (arith, c .before .before .before .loop .inv .2, some, same))
 
 returns-2 : tie.Need-returns-2 Inv-loop μ-loop
 returns-2 c =
     let a = c .before .before .before .before .before .args in
     let e : c .before .loop .i ≡ a .k = omega (arith, c .before .loop .inv .0, c .loop-test .left) in
-    (c .before .loop .inv .2 ∙ ap (λ (j : ℕ). length (nodesAt (a .l .capacity) (a .s .now) (c .before .before .before .part .result) (a .n .0) 0 j)) e ∙ ap (λ (j : ℕ). length (nodesAt (a .l .capacity) (a .s .now) j (a .n .0) 0 (a .k))) (c .before .before .before .part .ensures), omega (arith, c .before .loop .inv .1, e))
+    (c .before .loop .inv .2 ∙ ap (λ (j : ℕ). length (nodesAt (shapeOf (a .l)) (a .s .now) (c .before .before .before .part .result) (a .n .0) 0 j)) e ∙ ap (λ (j : ℕ). length (nodesAt (shapeOf (a .l)) (a .s .now) j (a .n .0) 0 (a .k))) (c .before .before .before .part .ensures), omega (arith, c .before .loop .inv .1, e))
 
 pub count-children-spec : {M : Type 1} → statement M
 count-children-spec =

@@ -5,6 +5,7 @@ use mathlib.Core.Path.{_≡_, refl, sym, ap, _∙_, subst}
 use native.Mathlib.Omega.{arith}
 use native.Mathlib.Nat.{sub-zero}
 use lib.ListN.{length, getD}
+use Rattle.node.specs.Layout.{shapeOf}
 use Rattle.model.specs.Paths.{noPosition}
 use Rattle.trim.specs.Picks.{lostAt, picks, Ahead}
 use Rattle.trim.proofs.Turns.{pick-turn, pick-stop}
@@ -15,8 +16,8 @@ use Rattle.reap.proofs.count_gone.Tie as tie
 
 abbrev Inv-loop : tie.InvT-loop
 Inv-loop l s edge depth sum₀ i₀ sum i =
-    (i ≤ depth) × (sum ≤ i * 268300290) × ((x : ℕ) × Spine (l .capacity) (l .pool) s x (picks (edge .positions) depth i (depth - i)))
-    × (length (goneOf (l .capacity) s (picks (edge .positions) depth 0 depth)) ≡ sum + length (goneOf (l .capacity) s (picks (edge .positions) depth i (depth - i))))
+    (i ≤ depth) × (sum ≤ i * 268300290) × ((x : ℕ) × Spine (shapeOf l) (l .pool) s x (picks (edge .positions) depth i (depth - i)))
+    × (length (goneOf (shapeOf l) s (picks (edge .positions) depth 0 depth)) ≡ sum + length (goneOf (shapeOf l) s (picks (edge .positions) depth i (depth - i))))
 
 abbrev μ-loop : tie.MeasureT-loop
 μ-loop l s edge depth sum₀ i₀ sum i = depth - i
@@ -35,10 +36,10 @@ unfolding Ahead
 lost-requires c κs = (c .before .before .before .before .before .pre .1 .0 .3 (c .before .before .before .loop .i) (c .before .before .loop-test .taken), c .before .before .loop-test .taken, c .before .before .before .before .before .pre .1 .0 .1)
 
 count-children-requires : tie.Need-count-children-requires Inv-loop μ-loop
-count-children-requires c κs = let a = c .before .before .before .before .before .before .args in (c .before .before .before .before .before .before .pre .0, (c .before .before .before .before .before .before .pre .1 .0 .0, rw (c .lost .ensures) (beside-here (a .l .capacity) (a .l .pool) (a .s .now) (getD (a .t3 .positions) (c .before .before .before .before .loop .i) noPosition .node .0) (lostAt (a .t3 .depth) (c .before .before .before .before .loop .i) (getD (a .t3 .positions) (c .before .before .before .before .loop .i) noPosition .index)) (picks (a .t3 .positions) (a .t3 .depth) (c .before .before .before .before .loop .i + 1) (a .t3 .depth - (c .before .before .before .before .loop .i + 1))) (c .before .before .before .before .loop .inv .2 .0) (subst (Spine (a .l .capacity) (a .l .pool) (a .s .now) (c .before .before .before .before .loop .inv .2 .0)) (pick-turn (a .t3 .positions) (a .t3 .depth) (c .before .before .before .before .loop .i) (c .before .before .before .loop-test .taken)) (c .before .before .before .before .loop .inv .2 .1)))))
+count-children-requires c κs = let a = c .before .before .before .before .before .before .args in (c .before .before .before .before .before .before .pre .0, (c .before .before .before .before .before .before .pre .1 .0 .0, rw (c .lost .ensures) (beside-here (shapeOf (a .l)) (a .l .pool) (a .s .now) (getD (a .t3 .positions) (c .before .before .before .before .loop .i) noPosition .node .0) (lostAt (a .t3 .depth) (c .before .before .before .before .loop .i) (getD (a .t3 .positions) (c .before .before .before .before .loop .i) noPosition .index)) (picks (a .t3 .positions) (a .t3 .depth) (c .before .before .before .before .loop .i + 1) (a .t3 .depth - (c .before .before .before .before .loop .i + 1))) (c .before .before .before .before .loop .inv .2 .0) (subst (Spine (shapeOf (a .l)) (a .l .pool) (a .s .now) (c .before .before .before .before .loop .inv .2 .0)) (pick-turn (a .t3 .positions) (a .t3 .depth) (c .before .before .before .before .loop .i) (c .before .before .before .loop-test .taken)) (c .before .before .before .before .loop .inv .2 .1)))))
 
 add-sum : tie.Need-add-sum Inv-loop μ-loop
-add-sum c = let a = c .before .before .before .before .before .before .before .args in omega (arith, c .before .before .before .before .before .loop .inv .1, c .before .before .before .before .loop-test .taken, c .before .before .before .before .before .before .before .pre .1 .0 .1, c .count-children .ensures .1, c .before .lost .ensures, (beside-here (a .l .capacity) (a .l .pool) (a .s .now) (getD (a .t3 .positions) (c .before .before .before .before .before .loop .i) noPosition .node .0) (lostAt (a .t3 .depth) (c .before .before .before .before .before .loop .i) (getD (a .t3 .positions) (c .before .before .before .before .before .loop .i) noPosition .index)) (picks (a .t3 .positions) (a .t3 .depth) (c .before .before .before .before .before .loop .i + 1) (a .t3 .depth - (c .before .before .before .before .before .loop .i + 1))) (c .before .before .before .before .before .loop .inv .2 .0) (subst (Spine (a .l .capacity) (a .l .pool) (a .s .now) (c .before .before .before .before .before .loop .inv .2 .0)) (pick-turn (a .t3 .positions) (a .t3 .depth) (c .before .before .before .before .before .loop .i) (c .before .before .before .before .loop-test .taken)) (c .before .before .before .before .before .loop .inv .2 .1))) .within, (beside-here (a .l .capacity) (a .l .pool) (a .s .now) (getD (a .t3 .positions) (c .before .before .before .before .before .loop .i) noPosition .node .0) (lostAt (a .t3 .depth) (c .before .before .before .before .before .loop .i) (getD (a .t3 .positions) (c .before .before .before .before .before .loop .i) noPosition .index)) (picks (a .t3 .positions) (a .t3 .depth) (c .before .before .before .before .before .loop .i + 1) (a .t3 .depth - (c .before .before .before .before .before .loop .i + 1))) (c .before .before .before .before .before .loop .inv .2 .0) (subst (Spine (a .l .capacity) (a .l .pool) (a .s .now) (c .before .before .before .before .before .loop .inv .2 .0)) (pick-turn (a .t3 .positions) (a .t3 .depth) (c .before .before .before .before .before .loop .i) (c .before .before .before .before .loop-test .taken)) (c .before .before .before .before .before .loop .inv .2 .1))) .narrow, c .before .before .before .before .before .before .before .pre .0 .cap-high)
+add-sum c = let a = c .before .before .before .before .before .before .before .args in omega (arith, c .before .before .before .before .before .loop .inv .1, c .before .before .before .before .loop-test .taken, c .before .before .before .before .before .before .before .pre .1 .0 .1, c .count-children .ensures .1, c .before .lost .ensures, (beside-here (shapeOf (a .l)) (a .l .pool) (a .s .now) (getD (a .t3 .positions) (c .before .before .before .before .before .loop .i) noPosition .node .0) (lostAt (a .t3 .depth) (c .before .before .before .before .before .loop .i) (getD (a .t3 .positions) (c .before .before .before .before .before .loop .i) noPosition .index)) (picks (a .t3 .positions) (a .t3 .depth) (c .before .before .before .before .before .loop .i + 1) (a .t3 .depth - (c .before .before .before .before .before .loop .i + 1))) (c .before .before .before .before .before .loop .inv .2 .0) (subst (Spine (shapeOf (a .l)) (a .l .pool) (a .s .now) (c .before .before .before .before .before .loop .inv .2 .0)) (pick-turn (a .t3 .positions) (a .t3 .depth) (c .before .before .before .before .before .loop .i) (c .before .before .before .before .loop-test .taken)) (c .before .before .before .before .before .loop .inv .2 .1))) .within, (beside-here (shapeOf (a .l)) (a .l .pool) (a .s .now) (getD (a .t3 .positions) (c .before .before .before .before .before .loop .i) noPosition .node .0) (lostAt (a .t3 .depth) (c .before .before .before .before .before .loop .i) (getD (a .t3 .positions) (c .before .before .before .before .before .loop .i) noPosition .index)) (picks (a .t3 .positions) (a .t3 .depth) (c .before .before .before .before .before .loop .i + 1) (a .t3 .depth - (c .before .before .before .before .before .loop .i + 1))) (c .before .before .before .before .before .loop .inv .2 .0) (subst (Spine (shapeOf (a .l)) (a .l .pool) (a .s .now) (c .before .before .before .before .before .loop .inv .2 .0)) (pick-turn (a .t3 .positions) (a .t3 .depth) (c .before .before .before .before .before .loop .i) (c .before .before .before .before .loop-test .taken)) (c .before .before .before .before .before .loop .inv .2 .1))) .narrow, c .before .before .before .before .before .before .before .pre .0 .cap-high)
 
 add-i : tie.Need-add-i Inv-loop μ-loop
 add-i c = search needs
@@ -49,16 +50,16 @@ loop-less c = search needs
 loop-again : tie.Need-loop-again Inv-loop μ-loop
 loop-again c = let a = c .before .before .before .before .before .before .before .args in
     let some = rw (c .before .lost .ensures) at (c .count-children .ensures .0) in
-    let b = beside-here (a .l .capacity) (a .l .pool) (a .s .now) (getD (a .t3 .positions) (c .before .before .before .before .before .loop .i) noPosition .node .0) (lostAt (a .t3 .depth) (c .before .before .before .before .before .loop .i) (getD (a .t3 .positions) (c .before .before .before .before .before .loop .i) noPosition .index)) (picks (a .t3 .positions) (a .t3 .depth) (c .before .before .before .before .before .loop .i + 1) (a .t3 .depth - (c .before .before .before .before .before .loop .i + 1))) (c .before .before .before .before .before .loop .inv .2 .0) (subst (Spine (a .l .capacity) (a .l .pool) (a .s .now) (c .before .before .before .before .before .loop .inv .2 .0)) (pick-turn (a .t3 .positions) (a .t3 .depth) (c .before .before .before .before .before .loop .i) (c .before .before .before .before .loop-test .taken)) (c .before .before .before .before .before .loop .inv .2 .1)) in (
+    let b = beside-here (shapeOf (a .l)) (a .l .pool) (a .s .now) (getD (a .t3 .positions) (c .before .before .before .before .before .loop .i) noPosition .node .0) (lostAt (a .t3 .depth) (c .before .before .before .before .before .loop .i) (getD (a .t3 .positions) (c .before .before .before .before .before .loop .i) noPosition .index)) (picks (a .t3 .positions) (a .t3 .depth) (c .before .before .before .before .before .loop .i + 1) (a .t3 .depth - (c .before .before .before .before .before .loop .i + 1))) (c .before .before .before .before .before .loop .inv .2 .0) (subst (Spine (shapeOf (a .l)) (a .l .pool) (a .s .now) (c .before .before .before .before .before .loop .inv .2 .0)) (pick-turn (a .t3 .positions) (a .t3 .depth) (c .before .before .before .before .before .loop .i) (c .before .before .before .before .loop-test .taken)) (c .before .before .before .before .before .loop .inv .2 .1)) in (
       omega (arith, c .before .before .before .before .loop-test .taken),
       omega (arith, c .before .before .before .before .before .loop .inv .1, c .count-children .ensures .1, c .before .lost .ensures, b .within, b .narrow, c .before .before .before .before .before .before .before .pre .0 .cap-high),
-      spine-after (a .l .capacity) (a .l .pool) (a .s .now) (getD (a .t3 .positions) (c .before .before .before .before .before .loop .i) noPosition .node .0) (lostAt (a .t3 .depth) (c .before .before .before .before .before .loop .i) (getD (a .t3 .positions) (c .before .before .before .before .before .loop .i) noPosition .index)) (picks (a .t3 .positions) (a .t3 .depth) (c .before .before .before .before .before .loop .i + 1) (a .t3 .depth - (c .before .before .before .before .before .loop .i + 1))) (c .before .before .before .before .before .loop .inv .2 .0) (subst (Spine (a .l .capacity) (a .l .pool) (a .s .now) (c .before .before .before .before .before .loop .inv .2 .0)) (pick-turn (a .t3 .positions) (a .t3 .depth) (c .before .before .before .before .before .loop .i) (c .before .before .before .before .loop-test .taken)) (c .before .before .before .before .before .loop .inv .2 .1)),
-      omega (arith, c .before .before .before .before .before .loop .inv .3, some, gone-length (a .l .capacity) (a .l .pool) (a .s .now) (getD (a .t3 .positions) (c .before .before .before .before .before .loop .i) noPosition .node .0) (lostAt (a .t3 .depth) (c .before .before .before .before .before .loop .i) (getD (a .t3 .positions) (c .before .before .before .before .before .loop .i) noPosition .index)) (picks (a .t3 .positions) (a .t3 .depth) (c .before .before .before .before .before .loop .i + 1) (a .t3 .depth - (c .before .before .before .before .before .loop .i + 1))) (c .before .before .before .before .before .loop .inv .2 .0) (subst (Spine (a .l .capacity) (a .l .pool) (a .s .now) (c .before .before .before .before .before .loop .inv .2 .0)) (pick-turn (a .t3 .positions) (a .t3 .depth) (c .before .before .before .before .before .loop .i) (c .before .before .before .before .loop-test .taken)) (c .before .before .before .before .before .loop .inv .2 .1)), ap (λ (ts : List (ℕ × ℕ)). length (goneOf (a .l .capacity) (a .s .now) ts)) (pick-turn (a .t3 .positions) (a .t3 .depth) (c .before .before .before .before .before .loop .i) (c .before .before .before .before .loop-test .taken))),
+      spine-after (shapeOf (a .l)) (a .l .pool) (a .s .now) (getD (a .t3 .positions) (c .before .before .before .before .before .loop .i) noPosition .node .0) (lostAt (a .t3 .depth) (c .before .before .before .before .before .loop .i) (getD (a .t3 .positions) (c .before .before .before .before .before .loop .i) noPosition .index)) (picks (a .t3 .positions) (a .t3 .depth) (c .before .before .before .before .before .loop .i + 1) (a .t3 .depth - (c .before .before .before .before .before .loop .i + 1))) (c .before .before .before .before .before .loop .inv .2 .0) (subst (Spine (shapeOf (a .l)) (a .l .pool) (a .s .now) (c .before .before .before .before .before .loop .inv .2 .0)) (pick-turn (a .t3 .positions) (a .t3 .depth) (c .before .before .before .before .before .loop .i) (c .before .before .before .before .loop-test .taken)) (c .before .before .before .before .before .loop .inv .2 .1)),
+      omega (arith, c .before .before .before .before .before .loop .inv .3, some, gone-length (shapeOf (a .l)) (a .l .pool) (a .s .now) (getD (a .t3 .positions) (c .before .before .before .before .before .loop .i) noPosition .node .0) (lostAt (a .t3 .depth) (c .before .before .before .before .before .loop .i) (getD (a .t3 .positions) (c .before .before .before .before .before .loop .i) noPosition .index)) (picks (a .t3 .positions) (a .t3 .depth) (c .before .before .before .before .before .loop .i + 1) (a .t3 .depth - (c .before .before .before .before .before .loop .i + 1))) (c .before .before .before .before .before .loop .inv .2 .0) (subst (Spine (shapeOf (a .l)) (a .l .pool) (a .s .now) (c .before .before .before .before .before .loop .inv .2 .0)) (pick-turn (a .t3 .positions) (a .t3 .depth) (c .before .before .before .before .before .loop .i) (c .before .before .before .before .loop-test .taken)) (c .before .before .before .before .before .loop .inv .2 .1)), ap (λ (ts : List (ℕ × ℕ)). length (goneOf (shapeOf (a .l)) (a .s .now) ts)) (pick-turn (a .t3 .positions) (a .t3 .depth) (c .before .before .before .before .before .loop .i) (c .before .before .before .before .loop-test .taken))),
     )
 
 returns : tie.Need-returns Inv-loop μ-loop
 unfolding goneOf
-returns c = let a = c .before .before .before .args in sym (c .before .loop .inv .3 ∙ ap (λ (ts : List (ℕ × ℕ)). c .before .loop .sum + length (goneOf (a .l .capacity) (a .s .now) ts)) (pick-stop (a .t3 .positions) (a .t3 .depth) (c .before .loop .i) (c .loop-test .left)) ∙ omega arith)
+returns c = let a = c .before .before .before .args in sym (c .before .loop .inv .3 ∙ ap (λ (ts : List (ℕ × ℕ)). c .before .loop .sum + length (goneOf (shapeOf (a .l)) (a .s .now) ts)) (pick-stop (a .t3 .positions) (a .t3 .depth) (c .before .loop .i) (c .loop-test .left)) ∙ omega arith)
 
 pub count-gone-spec : {M : Type 1} → statement M
 count-gone-spec =

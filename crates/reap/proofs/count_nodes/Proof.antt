@@ -4,6 +4,7 @@ use mathlib.Core.Bool.{true, false}
 use mathlib.Core.Path.{_≡_, sym, _∙_}
 use native.Mathlib.Omega.{arith}
 use lib.ListN.{length}
+use Rattle.node.specs.Layout.{shapeOf}
 use Rattle.model.specs.Reading.{rootNodes}
 use Rattle.model.specs.Paths.{lastOf}
 use Rattle.walk.specs.Left.{left}
@@ -13,13 +14,13 @@ use Rattle.reap.proofs.count_nodes.Statement.{statement}
 use Rattle.reap.proofs.count_nodes.Tie as tie
 
 abbrev Inv-loop : tie.InvT-loop
-Inv-loop l s path₀ count₀ path count = Counting (l .capacity) (l .pool) s (length (rootNodes (l .capacity) s (lastOf path₀ .node .0))) count path
+Inv-loop l s path₀ count₀ path count = Counting (shapeOf l) (l .pool) s (length (rootNodes (shapeOf l) s (lastOf path₀ .node .0))) count path
 
 abbrev μ-loop : tie.MeasureT-loop
-μ-loop l s path₀ count₀ path count = length (left false (l .capacity) (l .pool) s path)
+μ-loop l s path₀ count₀ path count = length (left false (shapeOf l) (l .pool) s path)
 
 loop-holds : tie.Need-loop-holds Inv-loop μ-loop
-loop-holds c = let a = c .before .args in start-count (a .l .capacity) (a .l .pool) (a .s .now) (a .root .0) (c .before .pre .0) (c .before .pre .1 .0)
+loop-holds c = let a = c .before .args in start-count (shapeOf (a .l)) (a .l .pool) (a .s .now) (a .root .0) (c .before .pre .0) (c .before .pre .1 .0)
 
 sub-at : tie.Need-sub-at Inv-loop μ-loop
 sub-at c = search needs
@@ -67,19 +68,19 @@ loop-less : tie.Need-loop-less Inv-loop μ-loop
 loop-less c = rw (c .child .ensures) (goes-in (c .before .before .before .before .before .before .loop .inv .walk) (c .before .before .before .before .before .loop-test .taken) (sym (c .before .before .has-child .ensures) ∙ c .before .if1 .taken) .less)
 
 loop-again : tie.Need-loop-again Inv-loop μ-loop
-loop-again c = let a = c .before .before .before .before .before .before .before .before .args in rw (c .child .ensures) (count-in (a .l .capacity) (a .l .pool) (a .s .now) _ (c .before .before .before .before .before .before .loop .count) (c .before .before .before .before .before .before .loop .path) (c .before .before .before .before .before .before .loop .inv) (c .before .before .before .before .before .loop-test .taken) (sym (c .before .before .has-child .ensures) ∙ c .before .if1 .taken))
+loop-again c = let a = c .before .before .before .before .before .before .before .before .args in rw (c .child .ensures) (count-in (shapeOf (a .l)) (a .l .pool) (a .s .now) _ (c .before .before .before .before .before .before .loop .count) (c .before .before .before .before .before .before .loop .path) (c .before .before .before .before .before .before .loop .inv) (c .before .before .before .before .before .loop-test .taken) (sym (c .before .before .has-child .ensures) ∙ c .before .if1 .taken))
 
 add-count : tie.Need-add-count Inv-loop μ-loop
-add-count c = let a = c .before .before .before .before .before .before .before .args in omega (arith, c .before .before .before .before .before .before .before .pre .1 .1, more (a .l .capacity) (a .l .pool) (a .s .now) _ (c .before .before .before .before .before .loop .count) (c .before .before .before .before .before .loop .path) (c .before .before .before .before .before .loop .inv) (c .before .before .before .before .loop-test .taken) (sym (c .before .has-child .ensures) ∙ c .if1 .left))
+add-count c = let a = c .before .before .before .before .before .before .before .args in omega (arith, c .before .before .before .before .before .before .before .pre .1 .1, more (shapeOf (a .l)) (a .l .pool) (a .s .now) _ (c .before .before .before .before .before .loop .count) (c .before .before .before .before .before .loop .path) (c .before .before .before .before .before .loop .inv) (c .before .before .before .before .loop-test .taken) (sym (c .before .has-child .ensures) ∙ c .if1 .left))
 
 loop-less-2 : tie.Need-loop-less-2 Inv-loop μ-loop
-loop-less-2 c = let a = c .before .before .before .before .before .before .before .args in less-out (a .l .capacity) (a .l .pool) (a .s .now) _ (c .before .before .before .before .before .loop .count) (c .before .before .before .before .before .loop .path) (c .before .before .before .before .before .loop .inv) (c .before .before .before .before .loop-test .taken) (sym (c .before .has-child .ensures) ∙ c .if1 .left)
+loop-less-2 c = let a = c .before .before .before .before .before .before .before .args in less-out (shapeOf (a .l)) (a .l .pool) (a .s .now) _ (c .before .before .before .before .before .loop .count) (c .before .before .before .before .before .loop .path) (c .before .before .before .before .before .loop .inv) (c .before .before .before .before .loop-test .taken) (sym (c .before .has-child .ensures) ∙ c .if1 .left)
 
 loop-again-2 : tie.Need-loop-again-2 Inv-loop μ-loop
-loop-again-2 c = let a = c .before .before .before .before .before .before .before .args in count-out (a .l .capacity) (a .l .pool) (a .s .now) _ (c .before .before .before .before .before .loop .count) (c .before .before .before .before .before .loop .path) (c .before .before .before .before .before .loop .inv) (c .before .before .before .before .loop-test .taken) (sym (c .before .has-child .ensures) ∙ c .if1 .left)
+loop-again-2 c = let a = c .before .before .before .before .before .before .before .args in count-out (shapeOf (a .l)) (a .l .pool) (a .s .now) _ (c .before .before .before .before .before .loop .count) (c .before .before .before .before .before .loop .path) (c .before .before .before .before .before .loop .inv) (c .before .before .before .before .loop-test .taken) (sym (c .before .has-child .ensures) ∙ c .if1 .left)
 
 returns : tie.Need-returns Inv-loop μ-loop
-returns c = let a = c .before .before .before .args in done (a .l .capacity) (a .l .pool) (a .s .now) _ (c .before .loop .count) (c .before .loop .path) (c .before .loop .inv) (c .loop-test .left)
+returns c = let a = c .before .before .before .args in done (shapeOf (a .l)) (a .l .pool) (a .s .now) _ (c .before .loop .count) (c .before .loop .path) (c .before .loop .inv) (c .loop-test .left)
 
 pub count-nodes-spec : {M : Type 1} → statement M
 count-nodes-spec =

@@ -4,6 +4,7 @@ use mathlib.Core.List.{List}
 use mathlib.Core.Path.{_≡_, refl, sym, ap, _∙_, subst}
 use native.Mathlib.Omega.{arith}
 use native.Mathlib.Nat.{sub-zero}
+use Rattle.node.specs.Layout.{shapeOf}
 use Rattle.model.specs.Words.{freeAll, freeCount, part, height}
 use Rattle.model.proofs.Words.{small}
 use Rattle.reap.specs.Spine.{nodesAt, Ready}
@@ -12,7 +13,7 @@ use Rattle.reap.proofs.free_children.Statement.{statement}
 use Rattle.reap.proofs.free_children.Tie as tie
 
 abbrev Inv-loop : tie.InvT-loop
-Inv-loop l s₀ n k height i₀ s i = (freeAll (l .capacity) s₀ (nodesAt (l .capacity) s₀ height (n .0) 0 k) ≡ freeAll (l .capacity) s (nodesAt (l .capacity) s height (n .0) i (k - i))) × Ready (l .capacity) (l .pool) s height (n .0) i (k - i) × (i ≤ k)
+Inv-loop l s₀ n k height i₀ s i = (freeAll (shapeOf l) s₀ (nodesAt (shapeOf l) s₀ height (n .0) 0 k) ≡ freeAll (shapeOf l) s (nodesAt (shapeOf l) s height (n .0) i (k - i))) × Ready (shapeOf l) (l .pool) s height (n .0) i (k - i) × (i ≤ k)
 
 abbrev μ-loop : tie.MeasureT-loop
 μ-loop l s₀ n k height i₀ s i = k - i
@@ -25,7 +26,7 @@ same-length c = refl
 
 returns : tie.Need-returns Inv-loop μ-loop
 unfolding freeAll
-returns c = let a = c .before .before .before .before .args in sym (ap (freeAll (a .l .capacity) (a .s .now)) (no-nodes (a .l .capacity) (a .s .now) (height (a .l .capacity) (a .s .now) (a .n .0)) (a .n .0) 0 (a .k) (sym (c .before .part .ensures) ∙ c .if1 .taken)))
+returns c = let a = c .before .before .before .before .args in sym (ap (freeAll (shapeOf (a .l)) (a .s .now)) (no-nodes (shapeOf (a .l)) (a .s .now) (height (shapeOf (a .l)) (a .s .now) (a .n .0)) (a .n .0) 0 (a .k) (sym (c .before .part .ensures) ∙ c .if1 .taken)))
 
 loop-holds : tie.Need-loop-holds Inv-loop μ-loop
 loop-holds c =
@@ -47,7 +48,7 @@ sub-room c = omega (arith, c .before .before .before .before .loop .inv .1 .room
 free-first-requires : tie.Need-free-first-requires Inv-loop μ-loop
 free-first-requires c κs =
     let a = c .before .before .before .before .before .before .before .before .before .before .args in
-    rw (c .before .before .child .ensures) (turn-ready (a .l .capacity) (a .l .pool) (c .before .before .before .before .before .loop .s) _ (a .n .0) (c .before .before .before .before .before .loop .i) (a .k) (omega (arith, c .before .before .before .before .before .before .if1 .left)) (c .before .before .before .before .loop-test .taken) (c .before .before .before .before .before .loop .inv .1) (65535 - freeCount (c .before .before .before .before .before .loop .s)) (omega (arith, c .before .before .before .before .before .loop .inv .1 .room)))
+    rw (c .before .before .child .ensures) (turn-ready (shapeOf (a .l)) (a .l .pool) (c .before .before .before .before .before .loop .s) _ (a .n .0) (c .before .before .before .before .before .loop .i) (a .k) (omega (arith, c .before .before .before .before .before .before .if1 .left)) (c .before .before .before .before .loop-test .taken) (c .before .before .before .before .before .loop .inv .1) (65535 - freeCount (c .before .before .before .before .before .loop .s)) (omega (arith, c .before .before .before .before .before .loop .inv .1 .room)))
 
 add-i : tie.Need-add-i Inv-loop μ-loop
 add-i c = search needs
@@ -59,8 +60,8 @@ loop-again : tie.Need-loop-again Inv-loop μ-loop
 loop-again c =
     let a = c .before .before .before .before .before .before .before .before .before .before .before .before .before .args in
     rw (c .before .before .free-first .ensures, c .before .before .before .before .before .child .ensures) (
-      c .before .before .before .before .before .before .before .before .loop .inv .0 ∙ turn-whole (a .l .capacity) (a .l .pool) (c .before .before .before .before .before .before .before .before .loop .s) _ (a .n .0) (c .before .before .before .before .before .before .before .before .loop .i) (a .k) (omega (arith, c .before .before .before .before .before .before .before .before .before .if1 .left)) (c .before .before .before .before .before .before .before .loop-test .taken) (c .before .before .before .before .before .before .before .before .loop .inv .1) (65535 - freeCount (c .before .before .before .before .before .before .before .before .loop .s)) (omega (arith, c .before .before .before .before .before .before .before .before .loop .inv .1 .room)),
-      turn-next (a .l .capacity) (a .l .pool) (c .before .before .before .before .before .before .before .before .loop .s) _ (a .n .0) (c .before .before .before .before .before .before .before .before .loop .i) (a .k) (omega (arith, c .before .before .before .before .before .before .before .before .before .if1 .left)) (c .before .before .before .before .before .before .before .loop-test .taken) (c .before .before .before .before .before .before .before .before .loop .inv .1) (65535 - freeCount (c .before .before .before .before .before .before .before .before .loop .s)) (omega (arith, c .before .before .before .before .before .before .before .before .loop .inv .1 .room)),
+      c .before .before .before .before .before .before .before .before .loop .inv .0 ∙ turn-whole (shapeOf (a .l)) (a .l .pool) (c .before .before .before .before .before .before .before .before .loop .s) _ (a .n .0) (c .before .before .before .before .before .before .before .before .loop .i) (a .k) (omega (arith, c .before .before .before .before .before .before .before .before .before .if1 .left)) (c .before .before .before .before .before .before .before .loop-test .taken) (c .before .before .before .before .before .before .before .before .loop .inv .1) (65535 - freeCount (c .before .before .before .before .before .before .before .before .loop .s)) (omega (arith, c .before .before .before .before .before .before .before .before .loop .inv .1 .room)),
+      turn-next (shapeOf (a .l)) (a .l .pool) (c .before .before .before .before .before .before .before .before .loop .s) _ (a .n .0) (c .before .before .before .before .before .before .before .before .loop .i) (a .k) (omega (arith, c .before .before .before .before .before .before .before .before .before .if1 .left)) (c .before .before .before .before .before .before .before .loop-test .taken) (c .before .before .before .before .before .before .before .before .loop .inv .1) (65535 - freeCount (c .before .before .before .before .before .before .before .before .loop .s)) (omega (arith, c .before .before .before .before .before .before .before .before .loop .inv .1 .room)),
       omega (arith, c .before .before .before .before .before .before .before .loop-test .taken),
     )
 
@@ -70,7 +71,7 @@ same-length-2 c = c .before .loop .inv .1 .header .long ∙ sym (c .before .befo
 returns-2 : tie.Need-returns-2 Inv-loop μ-loop
 returns-2 c =
     let a = c .before .before .before .before .before .before .args in
-    sym (ap (λ (h : ℕ). freeAll (a .l .capacity) (a .s .now) (nodesAt (a .l .capacity) (a .s .now) h (a .n .0) 0 (a .k))) (sym (c .before .before .before .part .ensures)) ∙ c .before .loop .inv .0 ∙ none-left (a .l .capacity) (c .before .loop .s) (c .before .before .before .part .result) (a .n .0) (c .before .loop .i) (a .k) (c .loop-test .left))
+    sym (ap (λ (h : ℕ). freeAll (shapeOf (a .l)) (a .s .now) (nodesAt (shapeOf (a .l)) (a .s .now) h (a .n .0) 0 (a .k))) (sym (c .before .before .before .part .ensures)) ∙ c .before .loop .inv .0 ∙ none-left (shapeOf (a .l)) (c .before .loop .s) (c .before .before .before .part .result) (a .n .0) (c .before .loop .i) (a .k) (c .loop-test .left))
 
 pub free-children-spec : {M : Type 1} → statement M
 free-children-spec =

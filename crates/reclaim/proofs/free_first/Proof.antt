@@ -3,6 +3,7 @@ use mathlib.Core.Bool.{false}
 use mathlib.Core.Path.{sym, _∙_}
 use native.Mathlib.Omega.{arith}
 use lib.ListN.{length, take}
+use Rattle.node.specs.Layout.{shapeOf}
 use Rattle.model.specs.Words.{freeAll}
 use Rattle.model.specs.Reading.{rootNodes}
 use Rattle.model.specs.Paths.{lastOf}
@@ -14,13 +15,13 @@ use Rattle.reclaim.proofs.free_first.Tie as tie
 
 abbrev Inv-loop : tie.InvT-loop
 Inv-loop l s₀ k path₀ freed₀ s path freed =
-    Freeable (l .capacity) (l .pool) (freeAll (l .capacity) s₀ (take k (rootNodes (l .capacity) s₀ (lastOf path₀ .node .0)))) k freed s path
+    Freeable (shapeOf l) (l .pool) (freeAll (shapeOf l) s₀ (take k (rootNodes (shapeOf l) s₀ (lastOf path₀ .node .0)))) k freed s path
 
 abbrev μ-loop : tie.MeasureT-loop
-μ-loop l s₀ k path₀ freed₀ s path freed = length (left false (l .capacity) (l .pool) s path)
+μ-loop l s₀ k path₀ freed₀ s path freed = length (left false (shapeOf l) (l .pool) s path)
 
 loop-holds : tie.Need-loop-holds Inv-loop μ-loop
-loop-holds c = start-freeing (c .before .args .l .capacity) (c .before .args .l .pool) (c .before .args .s .now) (c .before .args .root .0) (c .before .args .k) (c .before .pre)
+loop-holds c = start-freeing (shapeOf (c .before .args .l)) (c .before .args .l .pool) (c .before .args .s .now) (c .before .args .root .0) (c .before .args .k) (c .before .pre)
 
 same-length : tie.Need-same-length Inv-loop μ-loop
 same-length c = c .before .before .loop .inv .header .long ∙ sym (c .before .before .before .before .pre .header .long)

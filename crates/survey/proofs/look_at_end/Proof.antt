@@ -1,6 +1,7 @@
 use borrow.Author.Needs.{needs}
 use mathlib.Core.Bool.{true, false}
 use mathlib.Core.Path.{_≡_, sym, _∙_}
+use Rattle.node.specs.Layout.{shapeOf}
 use Rattle.model.specs.Words.{part, height, end}
 use Rattle.model.specs.Reading.{endFits}
 use Rattle.node.specs.Test.{limitOf}
@@ -20,20 +21,20 @@ end-fits-requires c κs = search needs
 returns : tie.Need-returns
 returns c =
     let a = c .before .before .before .before .before .args in
-    let e : endFits (height (a .l .capacity) (a .s .now) (a .n .0)) (limitOf (a .next)) (end (a .l .capacity) (a .s .now) (a .n .0)) ≡ true = rw (c .before .before .before .part .ensures, c .before .before .part2 .ensures) at (sym (c .before .end-fits .ensures) ∙ c .if1 .taken) in
-    sym (end-right (a .l .capacity) (a .l .pool) (a .s .now) (a .n .0) (limitOf (a .next)) (a .wrong .0) e)
+    let e : endFits (height (shapeOf (a .l)) (a .s .now) (a .n .0)) (limitOf (a .next)) (end (shapeOf (a .l)) (a .s .now) (a .n .0)) ≡ true = rw (c .before .before .before .part .ensures, c .before .before .part2 .ensures) at (sym (c .before .end-fits .ensures) ∙ c .if1 .taken) in
+    sym (end-right (shapeOf (a .l)) (a .l .pool) (a .s .now) (a .n .0) (limitOf (a .next)) (a .wrong .0) e)
 
 returns-2 : tie.Need-returns-2
 returns-2 c =
     let a = c .before .before .before .before .before .before .before .before .args in
-    let e : endFits (height (a .l .capacity) (a .s .now) (a .n .0)) (limitOf (a .next)) (end (a .l .capacity) (a .s .now) (a .n .0)) ≡ false = rw (c .before .before .before .before .before .before .part .ensures, c .before .before .before .before .before .part2 .ensures) at (sym (c .before .before .before .before .end-fits .ensures) ∙ c .before .before .before .if1 .left) in
-    sym (end-later (a .l .capacity) (a .l .pool) (a .s .now) (a .n .0) (limitOf (a .next)) (a .wrong .0) e (c .if2 .taken))
+    let e : endFits (height (shapeOf (a .l)) (a .s .now) (a .n .0)) (limitOf (a .next)) (end (shapeOf (a .l)) (a .s .now) (a .n .0)) ≡ false = rw (c .before .before .before .before .before .before .part .ensures, c .before .before .before .before .before .part2 .ensures) at (sym (c .before .before .before .before .end-fits .ensures) ∙ c .before .before .before .if1 .left) in
+    sym (end-later (shapeOf (a .l)) (a .l .pool) (a .s .now) (a .n .0) (limitOf (a .next)) (a .wrong .0) e (c .if2 .taken))
 
 returns-3 : tie.Need-returns-3
 returns-3 c =
     let a = c .before .before .before .before .before .before .before .before .args in
-    let e : endFits (height (a .l .capacity) (a .s .now) (a .n .0)) (limitOf (a .next)) (end (a .l .capacity) (a .s .now) (a .n .0)) ≡ false = rw (c .before .before .before .before .before .before .part .ensures, c .before .before .before .before .before .part2 .ensures) at (sym (c .before .before .before .before .end-fits .ensures) ∙ c .before .before .before .if1 .left) in
-    sym (end-wrong (a .l .capacity) (a .l .pool) (a .s .now) (a .n .0) (limitOf (a .next)) (a .wrong .0) e (c .if2 .left))
+    let e : endFits (height (shapeOf (a .l)) (a .s .now) (a .n .0)) (limitOf (a .next)) (end (shapeOf (a .l)) (a .s .now) (a .n .0)) ≡ false = rw (c .before .before .before .before .before .before .part .ensures, c .before .before .before .before .before .part2 .ensures) at (sym (c .before .before .before .before .end-fits .ensures) ∙ c .before .before .before .if1 .left) in
+    sym (end-wrong (shapeOf (a .l)) (a .l .pool) (a .s .now) (a .n .0) (limitOf (a .next)) (a .wrong .0) e (c .if2 .left))
 
 pub look-at-end-spec : {M : Type 1} → statement M
 look-at-end-spec =

@@ -4,7 +4,7 @@ use mathlib.Core.Path.{_≡_, refl, sym, ap, _∙_}
 use native.Mathlib.Omega.{arith}
 use native.Mathlib.Nat.{sub-zero}
 use Rattle.model.specs.Prune.{copyAll}
-use Rattle.node.specs.Layout.{Fits}
+use Rattle.node.specs.Layout.{shapeOf, Fits}
 use Rattle.model.proofs.Words.{header-at}
 use Rattle.pool.specs.Write.{listed}
 use Rattle.trim.specs.Picks.{AllIn}
@@ -13,7 +13,7 @@ use Rattle.trim.proofs.copy_all.Statement.{statement}
 use Rattle.trim.proofs.copy_all.Tie as tie
 
 abbrev Inv-loop : tie.InvT-loop
-Inv-loop l s₀ root k nodes i₀ s i = Fits l s × (i ≤ k) × (copyAll (l .capacity) s₀ (root .0) (listed nodes 0 k) ≡ copyAll (l .capacity) s (root .0) (listed nodes i (k - i)))
+Inv-loop l s₀ root k nodes i₀ s i = Fits l s × (i ≤ k) × (copyAll (shapeOf l) s₀ (root .0) (listed nodes 0 k) ≡ copyAll (shapeOf l) s (root .0) (listed nodes i (k - i)))
 
 abbrev μ-loop : tie.MeasureT-loop
 μ-loop l s₀ root k nodes i₀ s i = k - i
@@ -41,9 +41,9 @@ loop-again : tie.Need-loop-again Inv-loop μ-loop
 unfolding copyAll listed
 loop-again c =
     let a = c .before .before .before .before .before .before .before .before .args in (
-      rw (c .before .before .copy-node .ensures) (copied-header (a .l .capacity) (a .l .pool) (c .before .before .before .before .before .before .loop .s) (c .before .before .before .before .before .before .loop .inv .0) _ (a .root .0)),
+      rw (c .before .before .copy-node .ensures) (copied-header (shapeOf (a .l)) (a .l .pool) (c .before .before .before .before .before .before .loop .s) (c .before .before .before .before .before .before .loop .inv .0) _ (a .root .0)),
       omega (arith, c .before .before .before .before .before .loop-test .taken),
-      c .before .before .before .before .before .before .loop .inv .2 ∙ ap (λ z. copyAll (a .l .capacity) (c .before .before .before .before .before .before .loop .s) (a .root .0) z) (turn (listed _ (c .before .before .before .before .before .before .loop .i)) (c .before .before .before .before .before .before .loop .i) (a .k) (c .before .before .before .before .before .loop-test .taken)) ∙ rw (c .before .before .copy-node .ensures),
+      c .before .before .before .before .before .before .loop .inv .2 ∙ ap (λ z. copyAll (shapeOf (a .l)) (c .before .before .before .before .before .before .loop .s) (a .root .0) z) (turn (listed _ (c .before .before .before .before .before .before .loop .i)) (c .before .before .before .before .before .before .loop .i) (a .k) (c .before .before .before .before .before .loop-test .taken)) ∙ rw (c .before .before .copy-node .ensures),
     )
 
 same-length : tie.Need-same-length Inv-loop μ-loop
@@ -51,7 +51,7 @@ same-length c = search needs
 
 returns : tie.Need-returns Inv-loop μ-loop
 unfolding copyAll listed
-returns c = let a = c .before .before .before .args in sym (c .before .loop .inv .2 ∙ ap (λ z. copyAll (a .l .capacity) (c .before .loop .s) (a .root .0) z) (stop (listed _ (c .before .loop .i)) (c .before .loop .i) (a .k) (c .loop-test .left)))
+returns c = let a = c .before .before .before .args in sym (c .before .loop .inv .2 ∙ ap (λ z. copyAll (shapeOf (a .l)) (c .before .loop .s) (a .root .0) z) (stop (listed _ (c .before .loop .i)) (c .before .loop .i) (a .k) (c .loop-test .left)))
 
 pub copy-all-spec : {M : Type 1} → statement M
 copy-all-spec =

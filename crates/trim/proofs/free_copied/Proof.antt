@@ -6,7 +6,7 @@ use native.Mathlib.Omega.{arith}
 use Rattle.model.specs.Words.{freeAll, freeCount}
 use Rattle.model.proofs.Writes.{freed-count}
 use lib.ListN.{getD}
-use Rattle.node.specs.Layout.{Fits}
+use Rattle.node.specs.Layout.{shapeOf, Fits}
 use Rattle.pool.specs.Write.{listed}
 use Rattle.trim.specs.Picks.{AllIn}
 use Rattle.trim.proofs.Turns.{free-last, freed-header}
@@ -14,7 +14,7 @@ use Rattle.trim.proofs.free_copied.Statement.{statement}
 use Rattle.trim.proofs.free_copied.Tie as tie
 
 abbrev Inv-loop : tie.InvT-loop
-Inv-loop l s₀ k nodes i₀ s i = Fits l s × (i ≤ k) × (freeCount s + i ≤ 65535) × (freeAll (l .capacity) s₀ (reverse (listed nodes 0 k)) ≡ freeAll (l .capacity) s (reverse (listed nodes 0 i)))
+Inv-loop l s₀ k nodes i₀ s i = Fits l s × (i ≤ k) × (freeCount s + i ≤ 65535) × (freeAll (shapeOf l) s₀ (reverse (listed nodes 0 k)) ≡ freeAll (shapeOf l) s (reverse (listed nodes 0 i)))
 
 abbrev μ-loop : tie.MeasureT-loop
 μ-loop l s₀ k nodes i₀ s i = i
@@ -41,10 +41,10 @@ loop-less c = search needs
 loop-again : tie.Need-loop-again Inv-loop μ-loop
 loop-again c =
     let a = c .before .before .before .before .before .before .before .before .args in (
-      rw (c .before .before .free-node .ensures) (freed-header (a .l .capacity) (a .l .pool) (c .before .before .before .before .before .before .loop .s) (c .before .before .before .before .before .before .loop .inv .0) _),
+      rw (c .before .before .free-node .ensures) (freed-header (shapeOf (a .l)) (a .l .pool) (c .before .before .before .before .before .before .loop .s) (c .before .before .before .before .before .before .loop .inv .0) _),
       omega (arith, c .before .before .before .before .before .before .loop .inv .1),
-      rw (c .before .before .free-node .ensures) (omega (arith, c .before .before .before .before .before .before .loop .inv .2, c .before .before .before .before .before .loop-test .taken, freed-count (a .l .capacity) (c .before .before .before .before .before .before .loop .s) (getD (a .t3) (c .before .before .before .before .before .before .loop .i - 1) (record { 0 = 0 }) .0) (a .l .pool) (c .before .before .before .before .before .before .loop .inv .0))),
-      c .before .before .before .before .before .before .loop .inv .3 ∙ free-last (a .l .capacity) (c .before .before .before .before .before .before .loop .s) _ (c .before .before .before .before .before .before .loop .i) (c .before .before .before .before .before .loop-test .taken) ∙ rw (c .before .before .free-node .ensures),
+      rw (c .before .before .free-node .ensures) (omega (arith, c .before .before .before .before .before .before .loop .inv .2, c .before .before .before .before .before .loop-test .taken, freed-count (shapeOf (a .l)) (c .before .before .before .before .before .before .loop .s) (getD (a .t3) (c .before .before .before .before .before .before .loop .i - 1) (record { 0 = 0 }) .0) (a .l .pool) (c .before .before .before .before .before .before .loop .inv .0))),
+      c .before .before .before .before .before .before .loop .inv .3 ∙ free-last (shapeOf (a .l)) (c .before .before .before .before .before .before .loop .s) _ (c .before .before .before .before .before .before .loop .i) (c .before .before .before .before .before .loop-test .taken) ∙ rw (c .before .before .free-node .ensures),
     )
 
 same-length : tie.Need-same-length Inv-loop μ-loop
@@ -55,7 +55,7 @@ unfolding freeAll listed
 returns c =
     let a = c .before .before .before .args in
     let z : c .before .loop .i ≡ 0 = omega (arith, c .loop-test .left) in
-    sym (c .before .loop .inv .3 ∙ ap (λ j. freeAll (a .l .capacity) (c .before .loop .s) (reverse (listed (a .t3) 0 j))) z)
+    sym (c .before .loop .inv .3 ∙ ap (λ j. freeAll (shapeOf (a .l)) (c .before .loop .s) (reverse (listed (a .t3) 0 j))) z)
 
 pub free-copied-spec : {M : Type 1} → statement M
 free-copied-spec =

@@ -7,7 +7,7 @@ use native.Mathlib.Nat.{sub-zero}
 use lib.ListN.{length, getD}
 use Rattle.model.specs.Prune.{trimAll}
 use Rattle.model.specs.Paths.{noPosition}
-use Rattle.node.specs.Layout.{Fits}
+use Rattle.node.specs.Layout.{shapeOf, Fits}
 use Rattle.trim.specs.Picks.{lostAt, picks, Ahead, Trims}
 use Rattle.trim.proofs.Turns.{trims-next, pick-turn, pick-stop}
 use Rattle.trim.proofs.trim_all.Statement.{statement}
@@ -15,8 +15,8 @@ use Rattle.trim.proofs.trim_all.Tie as tie
 
 abbrev Inv-loop : tie.InvT-loop
 Inv-loop l s₀ end edge depth i₀ s i =
-    Fits l s × (i ≤ depth) × Trims (l .capacity) (l .pool) s (picks (edge .positions) depth i (depth - i))
-    × (trimAll (l .capacity) s₀ (end .0) (picks (edge .positions) depth 0 depth) ≡ trimAll (l .capacity) s (end .0) (picks (edge .positions) depth i (depth - i)))
+    Fits l s × (i ≤ depth) × Trims (shapeOf l) (l .pool) s (picks (edge .positions) depth i (depth - i))
+    × (trimAll (shapeOf l) s₀ (end .0) (picks (edge .positions) depth 0 depth) ≡ trimAll (shapeOf l) s (end .0) (picks (edge .positions) depth i (depth - i)))
 
 abbrev μ-loop : tie.MeasureT-loop
 μ-loop l s₀ end edge depth i₀ s i = depth - i
@@ -38,7 +38,7 @@ trim-node-requires : tie.Need-trim-node-requires Inv-loop μ-loop
 unfolding Trims
 trim-node-requires c κs =
     let a = c .before .before .before .before .before .before .before .args in
-    let t = subst (Trims (a .l .capacity) (a .l .pool) (c .before .before .before .before .before .loop .s)) (pick-turn (a .t3 .positions) (a .t3 .depth) (c .before .before .before .before .before .loop .i) (c .before .before .before .before .loop-test .taken)) (c .before .before .before .before .before .loop .inv .2) in
+    let t = subst (Trims (shapeOf (a .l)) (a .l .pool) (c .before .before .before .before .before .loop .s)) (pick-turn (a .t3 .positions) (a .t3 .depth) (c .before .before .before .before .before .loop .i) (c .before .before .before .before .loop-test .taken)) (c .before .before .before .before .before .loop .inv .2) in
     (c .before .before .before .before .before .loop .inv .0, (t .inside, rw (c .before .lost .ensures) (omega (arith, t .keeps)), t .narrow))
 
 add-i : tie.Need-add-i Inv-loop μ-loop
@@ -54,13 +54,13 @@ loop-again c =
     let k = lostAt (a .t3 .depth) (c .before .before .before .before .before .before .before .before .loop .i) (getD (a .t3 .positions) (c .before .before .before .before .before .before .before .before .loop .i) noPosition .index) in
     let n = getD (a .t3 .positions) (c .before .before .before .before .before .before .before .before .loop .i) noPosition .node .0 in
     let ts = picks (a .t3 .positions) (a .t3 .depth) (c .before .before .before .before .before .before .before .before .loop .i + 1) (a .t3 .depth - (c .before .before .before .before .before .before .before .before .loop .i + 1)) in
-    let t = subst (Trims (a .l .capacity) (a .l .pool) (c .before .before .before .before .before .before .before .before .loop .s)) (pick-turn (a .t3 .positions) (a .t3 .depth) (c .before .before .before .before .before .before .before .before .loop .i) (c .before .before .before .before .before .before .before .loop-test .taken)) (c .before .before .before .before .before .before .before .before .loop .inv .2) in
-    let q = trims-next (a .l .capacity) (a .l .pool) (c .before .before .before .before .before .before .before .before .loop .s) (c .before .before .before .before .before .before .before .before .loop .inv .0) n k (a .end .0) ts t in
+    let t = subst (Trims (shapeOf (a .l)) (a .l .pool) (c .before .before .before .before .before .before .before .before .loop .s)) (pick-turn (a .t3 .positions) (a .t3 .depth) (c .before .before .before .before .before .before .before .before .loop .i) (c .before .before .before .before .before .before .before .loop-test .taken)) (c .before .before .before .before .before .before .before .before .loop .inv .2) in
+    let q = trims-next (shapeOf (a .l)) (a .l .pool) (c .before .before .before .before .before .before .before .before .loop .s) (c .before .before .before .before .before .before .before .before .loop .inv .0) n k (a .end .0) ts t in
     rw (c .before .before .trim-node .ensures, c .before .before .before .before .lost .ensures) (
       q .0,
       omega (arith, c .before .before .before .before .before .before .before .loop-test .taken),
       q .1,
-      c .before .before .before .before .before .before .before .before .loop .inv .3 ∙ ap (trimAll (a .l .capacity) (c .before .before .before .before .before .before .before .before .loop .s) (a .end .0)) (pick-turn (a .t3 .positions) (a .t3 .depth) (c .before .before .before .before .before .before .before .before .loop .i) (c .before .before .before .before .before .before .before .loop-test .taken)),
+      c .before .before .before .before .before .before .before .before .loop .inv .3 ∙ ap (trimAll (shapeOf (a .l)) (c .before .before .before .before .before .before .before .before .loop .s) (a .end .0)) (pick-turn (a .t3 .positions) (a .t3 .depth) (c .before .before .before .before .before .before .before .before .loop .i) (c .before .before .before .before .before .before .before .loop-test .taken)),
     )
 
 same-length : tie.Need-same-length Inv-loop μ-loop
@@ -68,7 +68,7 @@ same-length c = search needs
 
 returns : tie.Need-returns Inv-loop μ-loop
 unfolding trimAll
-returns c = let a = c .before .before .before .args in sym (c .before .loop .inv .3 ∙ ap (trimAll (a .l .capacity) (c .before .loop .s) (a .end .0)) (pick-stop (a .t3 .positions) (a .t3 .depth) (c .before .loop .i) (c .loop-test .left)))
+returns c = let a = c .before .before .before .args in sym (c .before .loop .inv .3 ∙ ap (trimAll (shapeOf (a .l)) (c .before .loop .s) (a .end .0)) (pick-stop (a .t3 .positions) (a .t3 .depth) (c .before .loop .i) (c .loop-test .left)))
 
 pub trim-all-spec : {M : Type 1} → statement M
 trim-all-spec =

@@ -3,6 +3,7 @@ use Prim.Native.Nat.{ℕ, _+_, _-_, _<_, _≤_}
 use mathlib.Core.Path.{_≡_, refl, sym, ap, _∙_, subst}
 use mathlib.Core.Logic.{⊎-elim, _⊎_, inl, inr}
 use native.Mathlib.Omega.{arith}
+use Rattle.node.specs.Layout.{shapeOf}
 use Rattle.model.specs.Words.{part, row}
 use Rattle.descend.proofs.Places.{Looked, moved, kept, found, place-below}
 use Rattle.descend.proofs.place.narrow.Statement.{statement}
@@ -10,7 +11,7 @@ use Rattle.descend.proofs.place.narrow.Tie as tie
 
 abbrev Inv-loop : tie.InvT-loop
 Inv-loop l s n count q low width step end place₀ i₀ place i =
-    Looked (l .capacity) s (q .0) (n .0) count step place i
+    Looked (shapeOf l) s (q .0) (n .0) count step place i
 
 abbrev μ-loop : tie.MeasureT-loop
 μ-loop l s n count q low width step end place₀ i₀ place i = count - i
@@ -44,8 +45,8 @@ loop-again c =
     let b : at .i < a .count = omega (arith, end, c .before .before .before .before .loop-test .taken) in
     let some : 1 ≤ a .count = omega arith in
     ⊎-elim
-    (λ (t : _). rw (t .1) (moved (a .l .capacity) (a .s .now) (a .n .0) (a .count) some (p .0 .2) (a .q .0) (a .step) (at .place) (at .i) (at .inv) b (omega (arith, r, t .0 .taken))))
-    (λ (t : _). rw (t .1) (kept (a .l .capacity) (a .s .now) (a .n .0) (a .count) some (p .0 .2) (a .q .0) (a .step) (at .place) (at .i) (at .inv) (p .1 .0 .0) b (omega (arith, r, t .0 .left))))
+    (λ (t : _). rw (t .1) (moved (shapeOf (a .l)) (a .s .now) (a .n .0) (a .count) some (p .0 .2) (a .q .0) (a .step) (at .place) (at .i) (at .inv) b (omega (arith, r, t .0 .taken))))
+    (λ (t : _). rw (t .1) (kept (shapeOf (a .l)) (a .s .now) (a .n .0) (a .count) some (p .0 .2) (a .q .0) (a .step) (at .place) (at .i) (at .inv) (p .1 .0 .0) b (omega (arith, r, t .0 .left))))
     (c .if1 .came)
 
 returns : tie.Need-returns Inv-loop μ-loop
@@ -55,8 +56,8 @@ returns c =
     let at = c .before .loop in
     let end = c .before .before .part-end .ensures in
     let some : 1 ≤ a .count = omega arith in
-    let below = place-below (a .l .capacity) (a .s .now) (a .n .0) (a .q .0) (a .count) some in
-    found (a .l .capacity) (a .s .now) (a .n .0) (a .count) some (p .0 .2) (a .q .0) (a .step) (at .place) (at .i) (at .inv) _ (omega (arith, below, end, p .1 .1 .before)) (c .loop-test .left)
+    let below = place-below (shapeOf (a .l)) (a .s .now) (a .n .0) (a .q .0) (a .count) some in
+    found (shapeOf (a .l)) (a .s .now) (a .n .0) (a .count) some (p .0 .2) (a .q .0) (a .step) (at .place) (at .i) (at .inv) _ (omega (arith, below, end, p .1 .1 .before)) (c .loop-test .left)
 
 pub narrow-spec : {M : Type 1} → statement M
 narrow-spec =

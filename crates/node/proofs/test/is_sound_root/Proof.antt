@@ -3,6 +3,7 @@ use borrow.Author.Tests.{not-true, not-false}
 use mathlib.Core.Path.{_≡_, _∙_, ap, sym}
 use mathlib.Core.Bool.{true, false}
 use lib.Dec.{leb}
+use Rattle.node.specs.Layout.{shapeOf}
 use Rattle.model.specs.Words.{part, height, maxHeight}
 use Rattle.model.specs.Tree.{rootSound, sound, nodeAt, Open}
 use Rattle.model.specs.declared.node.RowPageIndexNodeHeader.{RowPageIndexNodeHeader}
@@ -26,7 +27,7 @@ returns-2 : tie.Need-returns-2
 unfolding rootSound
 returns-2 c =
     let a = c .before .before .before .before .before .before .args in
-    let e : leb (height (a .l .capacity) (a .s .now) (a .n .0)) maxHeight ≡ false = sym (ap (λ (h : RowPageIndexNodeHeader). leb (h .height) maxHeight) (c .before .before .header .ensures)) ∙ sym (c .before .is-in-height .ensures) ∙ not-true _ (c .if2 .taken) in
+    let e : leb (height (shapeOf (a .l)) (a .s .now) (a .n .0)) maxHeight ≡ false = sym (ap (λ (h : RowPageIndexNodeHeader). leb (h .height) maxHeight) (c .before .before .header .ensures)) ∙ sym (c .before .is-in-height .ensures) ∙ not-true _ (c .if2 .taken) in
     rw (sym (c .before .before .before .before .is-empty-root .ensures) ∙ c .before .before .before .if1 .left, e)
 
 is-sound-requires : tie.Need-is-sound-requires
@@ -36,9 +37,9 @@ returns-3 : tie.Need-returns-3
 unfolding rootSound
 returns-3 c =
     let a = c .before .before .before .before .before .before .before .args in
-    let e : leb (height (a .l .capacity) (a .s .now) (a .n .0)) maxHeight ≡ true = sym (ap (λ (h : RowPageIndexNodeHeader). leb (h .height) maxHeight) (c .before .before .before .header .ensures)) ∙ sym (c .before .before .is-in-height .ensures) ∙ not-false _ (c .before .if2 .left) in
+    let e : leb (height (shapeOf (a .l)) (a .s .now) (a .n .0)) maxHeight ≡ true = sym (ap (λ (h : RowPageIndexNodeHeader). leb (h .height) maxHeight) (c .before .before .before .header .ensures)) ∙ sym (c .before .before .is-in-height .ensures) ∙ not-false _ (c .before .if2 .left) in
     rw (sym (c .before .before .before .before .before .is-empty-root .ensures) ∙ c .before .before .before .before .if1 .left, e)
-    (c .is-sound .ensures ∙ ap (λ (h : RowPageIndexNodeHeader). sound (a .l .capacity) (h .height) (nodeAt (a .l .capacity) (a .s .now) (a .n .0)) (h .«start_row_id» .0) Open) (c .before .before .before .header .ensures))
+    (c .is-sound .ensures ∙ ap (λ (h : RowPageIndexNodeHeader). sound (shapeOf (a .l)) (h .height) (nodeAt (shapeOf (a .l)) (a .s .now) (a .n .0)) (h .«start_row_id» .0) Open) (c .before .before .before .header .ensures))
 
 pub is-sound-root-spec : {M : Type 1} → statement M
 is-sound-root-spec =

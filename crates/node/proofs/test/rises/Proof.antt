@@ -3,19 +3,20 @@ use borrow.Author.Tests.{lt-ltb, le-ltb}
 use native.Mathlib.Omega.{arith}
 use Prim.Native.Nat.{ℕ, _+_, _-_, _≤_}
 use mathlib.Core.Path.{_≡_, _∙_, ap, refl, sym}
+use Rattle.node.specs.Layout.{shapeOf}
 use Rattle.model.specs.Tree.{rising, pairsFrom}
 use Rattle.node.proofs.Rows.{rest, rise-all, rise-on, rise-stop, rise-end}
 use Rattle.node.proofs.test.rises.Statement.{statement}
 use Rattle.node.proofs.test.rises.Tie as tie
 
 abbrev Inv-loop : tie.InvT-loop
-Inv-loop l s n count last₀ i₀ last i = (1 ≤ i) × (i ≤ count) × (rising (pairsFrom (l .capacity) s (λ (x : ℕ). x) (n .0) 0 count) ≡ rest (l .capacity) s (n .0) last i count)
+Inv-loop l s n count last₀ i₀ last i = (1 ≤ i) × (i ≤ count) × (rising (pairsFrom (shapeOf l) s (λ (x : ℕ). x) (n .0) 0 count) ≡ rest (shapeOf l) s (n .0) last i count)
 
 abbrev μ-loop : tie.MeasureT-loop
 μ-loop l s n count last₀ i₀ last i = count - i
 
 abbrev Inv-loop2 : tie.InvT-loop2
-Inv-loop2 l s n count last₀ i₀ last i = (1 ≤ i) × (i ≤ count) × (rising (pairsFrom (l .capacity) s (λ (x : ℕ). x) (n .0) 0 count) ≡ rest (l .capacity) s (n .0) last i count)
+Inv-loop2 l s n count last₀ i₀ last i = (1 ≤ i) × (i ≤ count) × (rising (pairsFrom (shapeOf l) s (λ (x : ℕ). x) (n .0) 0 count) ≡ rest (shapeOf l) s (n .0) last i count)
 
 abbrev μ-loop2 : tie.MeasureT-loop2
 μ-loop2 l s n count last₀ i₀ last i = count - i
@@ -24,7 +25,7 @@ row-requires : tie.Need-row-requires Inv-loop μ-loop Inv-loop2 μ-loop2
 row-requires c κs = search needs
 
 loop-holds : tie.Need-loop-holds Inv-loop μ-loop Inv-loop2 μ-loop2
-loop-holds c = let a = c .before .before .args in (omega arith, omega arith, rise-all (a .l .capacity) (a .s .now) (a .n .0) (a .count) (omega arith) ∙ rw (c .row .ensures))
+loop-holds c = let a = c .before .before .args in (omega arith, omega arith, rise-all (shapeOf (a .l)) (a .s .now) (a .n .0) (a .count) (omega arith) ∙ rw (c .row .ensures))
 
 add-loop : tie.Need-add-loop Inv-loop μ-loop Inv-loop2 μ-loop2
 add-loop c = search needs
@@ -33,7 +34,7 @@ row-requires-2 : tie.Need-row-requires-2 Inv-loop μ-loop Inv-loop2 μ-loop2
 row-requires-2 c κs = search needs
 
 returns : tie.Need-returns Inv-loop μ-loop Inv-loop2 μ-loop2
-returns c = let a = c .before .before .before .before .before .before .args in sym (c .before .before .before .loop .inv .2 ∙ rise-stop (a .l .capacity) (a .s .now) (a .n .0) _ _ _ (omega (arith, c .before .before .loop-test .taken)) (rw (c .before .row2 .ensures) at (c .if1 .taken)))
+returns c = let a = c .before .before .before .before .before .before .args in sym (c .before .before .before .loop .inv .2 ∙ rise-stop (shapeOf (a .l)) (a .s .now) (a .n .0) _ _ _ (omega (arith, c .before .before .loop-test .taken)) (rw (c .before .row2 .ensures) at (c .if1 .taken)))
 
 add-row : tie.Need-add-row Inv-loop μ-loop Inv-loop2 μ-loop2
 add-row c = search needs
@@ -44,8 +45,8 @@ row-requires-3 c κs = search needs
 returns-2 : tie.Need-returns-2 Inv-loop μ-loop Inv-loop2 μ-loop2
 returns-2 c =
     let a = c .before .before .before .before .before .before .before .before .args in
-    sym (c .before .before .before .before .before .loop .inv .2 ∙ rise-on (a .l .capacity) (a .s .now) (a .n .0) _ _ (c .before .before .before .before .before .loop .i + 1) _ (omega (arith, c .before .before .before .before .loop-test .taken)) (omega arith) (rw (c .before .before .before .row2 .ensures) at (c .before .before .if1 .left))
-    ∙ rise-stop (a .l .capacity) (a .s .now) (a .n .0) _ _ _ (omega (arith, c .before .before .before .before .loop-test .taken)) (rw (c .before .row3 .ensures, c .before .before .before .row2 .ensures) at (c .if2 .taken)))
+    sym (c .before .before .before .before .before .loop .inv .2 ∙ rise-on (shapeOf (a .l)) (a .s .now) (a .n .0) _ _ (c .before .before .before .before .before .loop .i + 1) _ (omega (arith, c .before .before .before .before .loop-test .taken)) (omega arith) (rw (c .before .before .before .row2 .ensures) at (c .before .before .if1 .left))
+    ∙ rise-stop (shapeOf (a .l)) (a .s .now) (a .n .0) _ _ _ (omega (arith, c .before .before .before .before .loop-test .taken)) (rw (c .before .row3 .ensures, c .before .before .before .row2 .ensures) at (c .if2 .taken)))
 
 add-row-2 : tie.Need-add-row-2 Inv-loop μ-loop Inv-loop2 μ-loop2
 add-row-2 c = search needs
@@ -56,9 +57,9 @@ row-requires-4 c κs = search needs
 returns-3 : tie.Need-returns-3 Inv-loop μ-loop Inv-loop2 μ-loop2
 returns-3 c =
     let a = c .before .before .before .before .before .before .before .before .before .before .args in
-    sym (c .before .before .before .before .before .before .before .loop .inv .2 ∙ rise-on (a .l .capacity) (a .s .now) (a .n .0) _ _ (c .before .before .before .before .before .before .before .loop .i + 1) _ (omega (arith, c .before .before .before .before .before .before .loop-test .taken)) (omega arith) (rw (c .before .before .before .before .before .row2 .ensures) at (c .before .before .before .before .if1 .left))
-    ∙ rise-on (a .l .capacity) (a .s .now) (a .n .0) _ _ (c .before .before .before .before .before .before .before .loop .i + 2) _ (omega (arith, c .before .before .before .before .before .before .loop-test .taken)) (omega arith) (rw (c .before .before .before .row3 .ensures, c .before .before .before .before .before .row2 .ensures) at (c .before .before .if2 .left))
-    ∙ rise-stop (a .l .capacity) (a .s .now) (a .n .0) _ _ _ (omega (arith, c .before .before .before .before .before .before .loop-test .taken)) (rw (c .before .row4 .ensures, c .before .before .before .row3 .ensures) at (c .if3 .taken)))
+    sym (c .before .before .before .before .before .before .before .loop .inv .2 ∙ rise-on (shapeOf (a .l)) (a .s .now) (a .n .0) _ _ (c .before .before .before .before .before .before .before .loop .i + 1) _ (omega (arith, c .before .before .before .before .before .before .loop-test .taken)) (omega arith) (rw (c .before .before .before .before .before .row2 .ensures) at (c .before .before .before .before .if1 .left))
+    ∙ rise-on (shapeOf (a .l)) (a .s .now) (a .n .0) _ _ (c .before .before .before .before .before .before .before .loop .i + 2) _ (omega (arith, c .before .before .before .before .before .before .loop-test .taken)) (omega arith) (rw (c .before .before .before .row3 .ensures, c .before .before .before .before .before .row2 .ensures) at (c .before .before .if2 .left))
+    ∙ rise-stop (shapeOf (a .l)) (a .s .now) (a .n .0) _ _ _ (omega (arith, c .before .before .before .before .before .before .loop-test .taken)) (rw (c .before .row4 .ensures, c .before .before .before .row3 .ensures) at (c .if3 .taken)))
 
 add-row-3 : tie.Need-add-row-3 Inv-loop μ-loop Inv-loop2 μ-loop2
 add-row-3 c = search needs
@@ -69,10 +70,10 @@ row-requires-5 c κs = search needs
 returns-4 : tie.Need-returns-4 Inv-loop μ-loop Inv-loop2 μ-loop2
 returns-4 c =
     let a = c .before .before .before .before .before .before .before .before .before .before .before .before .args in
-    sym (c .before .before .before .before .before .before .before .before .before .loop .inv .2 ∙ rise-on (a .l .capacity) (a .s .now) (a .n .0) _ _ (c .before .before .before .before .before .before .before .before .before .loop .i + 1) _ (omega (arith, c .before .before .before .before .before .before .before .before .loop-test .taken)) (omega arith) (rw (c .before .before .before .before .before .before .before .row2 .ensures) at (c .before .before .before .before .before .before .if1 .left))
-    ∙ rise-on (a .l .capacity) (a .s .now) (a .n .0) _ _ (c .before .before .before .before .before .before .before .before .before .loop .i + 2) _ (omega (arith, c .before .before .before .before .before .before .before .before .loop-test .taken)) (omega arith) (rw (c .before .before .before .before .before .row3 .ensures, c .before .before .before .before .before .before .before .row2 .ensures) at (c .before .before .before .before .if2 .left))
-    ∙ rise-on (a .l .capacity) (a .s .now) (a .n .0) _ _ (c .before .before .before .before .before .before .before .before .before .loop .i + 3) _ (omega (arith, c .before .before .before .before .before .before .before .before .loop-test .taken)) (omega arith) (rw (c .before .before .before .row4 .ensures, c .before .before .before .before .before .row3 .ensures) at (c .before .before .if3 .left))
-    ∙ rise-stop (a .l .capacity) (a .s .now) (a .n .0) _ _ _ (omega (arith, c .before .before .before .before .before .before .before .before .loop-test .taken)) (rw (c .before .row5 .ensures, c .before .before .before .row4 .ensures) at (c .if4 .taken)))
+    sym (c .before .before .before .before .before .before .before .before .before .loop .inv .2 ∙ rise-on (shapeOf (a .l)) (a .s .now) (a .n .0) _ _ (c .before .before .before .before .before .before .before .before .before .loop .i + 1) _ (omega (arith, c .before .before .before .before .before .before .before .before .loop-test .taken)) (omega arith) (rw (c .before .before .before .before .before .before .before .row2 .ensures) at (c .before .before .before .before .before .before .if1 .left))
+    ∙ rise-on (shapeOf (a .l)) (a .s .now) (a .n .0) _ _ (c .before .before .before .before .before .before .before .before .before .loop .i + 2) _ (omega (arith, c .before .before .before .before .before .before .before .before .loop-test .taken)) (omega arith) (rw (c .before .before .before .before .before .row3 .ensures, c .before .before .before .before .before .before .before .row2 .ensures) at (c .before .before .before .before .if2 .left))
+    ∙ rise-on (shapeOf (a .l)) (a .s .now) (a .n .0) _ _ (c .before .before .before .before .before .before .before .before .before .loop .i + 3) _ (omega (arith, c .before .before .before .before .before .before .before .before .loop-test .taken)) (omega arith) (rw (c .before .before .before .row4 .ensures, c .before .before .before .before .before .row3 .ensures) at (c .before .before .if3 .left))
+    ∙ rise-stop (shapeOf (a .l)) (a .s .now) (a .n .0) _ _ _ (omega (arith, c .before .before .before .before .before .before .before .before .loop-test .taken)) (rw (c .before .row5 .ensures, c .before .before .before .row4 .ensures) at (c .if4 .taken)))
 
 add-i : tie.Need-add-i Inv-loop μ-loop Inv-loop2 μ-loop2
 add-i c = search needs
@@ -85,10 +86,10 @@ loop-again c =
     let a = c .before .before .before .before .before .before .before .before .before .before .before .before .args in (
       omega arith,
       omega (arith, c .before .before .before .before .before .before .before .before .loop-test .taken),
-      c .before .before .before .before .before .before .before .before .before .loop .inv .2 ∙ rise-on (a .l .capacity) (a .s .now) (a .n .0) _ _ (c .before .before .before .before .before .before .before .before .before .loop .i + 1) _ (omega (arith, c .before .before .before .before .before .before .before .before .loop-test .taken)) (omega arith) (rw (c .before .before .before .before .before .before .before .row2 .ensures) at (c .before .before .before .before .before .before .if1 .left))
-          ∙ rise-on (a .l .capacity) (a .s .now) (a .n .0) _ _ (c .before .before .before .before .before .before .before .before .before .loop .i + 2) _ (omega (arith, c .before .before .before .before .before .before .before .before .loop-test .taken)) (omega arith) (rw (c .before .before .before .before .before .row3 .ensures, c .before .before .before .before .before .before .before .row2 .ensures) at (c .before .before .before .before .if2 .left))
-          ∙ rise-on (a .l .capacity) (a .s .now) (a .n .0) _ _ (c .before .before .before .before .before .before .before .before .before .loop .i + 3) _ (omega (arith, c .before .before .before .before .before .before .before .before .loop-test .taken)) (omega arith) (rw (c .before .before .before .row4 .ensures, c .before .before .before .before .before .row3 .ensures) at (c .before .before .if3 .left))
-          ∙ rise-on (a .l .capacity) (a .s .now) (a .n .0) _ _ (c .before .before .before .before .before .before .before .before .before .loop .i + 4) _ (omega (arith, c .before .before .before .before .before .before .before .before .loop-test .taken)) (omega arith) (rw (c .before .row5 .ensures, c .before .before .before .row4 .ensures) at (c .if4 .left))
+      c .before .before .before .before .before .before .before .before .before .loop .inv .2 ∙ rise-on (shapeOf (a .l)) (a .s .now) (a .n .0) _ _ (c .before .before .before .before .before .before .before .before .before .loop .i + 1) _ (omega (arith, c .before .before .before .before .before .before .before .before .loop-test .taken)) (omega arith) (rw (c .before .before .before .before .before .before .before .row2 .ensures) at (c .before .before .before .before .before .before .if1 .left))
+          ∙ rise-on (shapeOf (a .l)) (a .s .now) (a .n .0) _ _ (c .before .before .before .before .before .before .before .before .before .loop .i + 2) _ (omega (arith, c .before .before .before .before .before .before .before .before .loop-test .taken)) (omega arith) (rw (c .before .before .before .before .before .row3 .ensures, c .before .before .before .before .before .before .before .row2 .ensures) at (c .before .before .before .before .if2 .left))
+          ∙ rise-on (shapeOf (a .l)) (a .s .now) (a .n .0) _ _ (c .before .before .before .before .before .before .before .before .before .loop .i + 3) _ (omega (arith, c .before .before .before .before .before .before .before .before .loop-test .taken)) (omega arith) (rw (c .before .before .before .row4 .ensures, c .before .before .before .before .before .row3 .ensures) at (c .before .before .if3 .left))
+          ∙ rise-on (shapeOf (a .l)) (a .s .now) (a .n .0) _ _ (c .before .before .before .before .before .before .before .before .before .loop .i + 4) _ (omega (arith, c .before .before .before .before .before .before .before .before .loop-test .taken)) (omega arith) (rw (c .before .row5 .ensures, c .before .before .before .row4 .ensures) at (c .if4 .left))
           ∙ rw (c .before .row5 .ensures),
     )
 
@@ -99,7 +100,7 @@ row-requires-6 : tie.Need-row-requires-6 Inv-loop μ-loop Inv-loop2 μ-loop2
 row-requires-6 c κs = search needs
 
 returns-5 : tie.Need-returns-5 Inv-loop μ-loop Inv-loop2 μ-loop2
-returns-5 c = let a = c .before .before .before .before .before .before .before .before .args in sym (c .before .before .before .loop2 .inv .2 ∙ rise-stop (a .l .capacity) (a .s .now) (a .n .0) _ _ _ (c .before .before .loop2-test .taken) (rw (c .before .row6 .ensures) at (c .if5 .taken)))
+returns-5 c = let a = c .before .before .before .before .before .before .before .before .args in sym (c .before .before .before .loop2 .inv .2 ∙ rise-stop (shapeOf (a .l)) (a .s .now) (a .n .0) _ _ _ (c .before .before .loop2-test .taken) (rw (c .before .row6 .ensures) at (c .if5 .taken)))
 
 add-i-2 : tie.Need-add-i-2 Inv-loop μ-loop Inv-loop2 μ-loop2
 add-i-2 c = search needs
@@ -108,10 +109,10 @@ loop2-less : tie.Need-loop2-less Inv-loop μ-loop Inv-loop2 μ-loop2
 loop2-less c = search needs
 
 loop2-again : tie.Need-loop2-again Inv-loop μ-loop Inv-loop2 μ-loop2
-loop2-again c = let a = c .before .before .before .before .before .before .before .before .args in (omega arith, omega arith, c .before .before .before .loop2 .inv .2 ∙ rise-on (a .l .capacity) (a .s .now) (a .n .0) _ _ (c .before .before .before .loop2 .i + 1) _ (c .before .before .loop2-test .taken) refl (rw (c .before .row6 .ensures) at (c .if5 .left)) ∙ rw (c .before .row6 .ensures))
+loop2-again c = let a = c .before .before .before .before .before .before .before .before .args in (omega arith, omega arith, c .before .before .before .loop2 .inv .2 ∙ rise-on (shapeOf (a .l)) (a .s .now) (a .n .0) _ _ (c .before .before .before .loop2 .i + 1) _ (c .before .before .loop2-test .taken) refl (rw (c .before .row6 .ensures) at (c .if5 .left)) ∙ rw (c .before .row6 .ensures))
 
 returns-6 : tie.Need-returns-6 Inv-loop μ-loop Inv-loop2 μ-loop2
-returns-6 c = let a = c .before .before .before .before .before .before .args in sym (c .before .loop2 .inv .2 ∙ rise-end (a .l .capacity) (a .s .now) (a .n .0) _ _ _ (c .loop2-test .left))
+returns-6 c = let a = c .before .before .before .before .before .before .args in sym (c .before .loop2 .inv .2 ∙ rise-end (shapeOf (a .l)) (a .s .now) (a .n .0) _ _ _ (c .loop2-test .left))
 
 pub rises-spec : {M : Type 1} → statement M
 rises-spec =

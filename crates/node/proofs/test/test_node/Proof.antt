@@ -1,5 +1,6 @@
 use borrow.Author.Needs.{needs}
 use native.Mathlib.Omega.{arith}
+use Rattle.node.specs.Layout.{shapeOf}
 use Rattle.node.proofs.Rows.{facts}
 use borrow.Author.Tests.{not-true, not-false, eq-eqb, ne-eqb}
 use mathlib.Core.Path.{_≡_, _∙_, ap, sym}
@@ -25,7 +26,7 @@ returns-2 c = rw (sym (c .before .before .before .is-sound .ensures) ∙ not-fal
 first-out-requires : tie.Need-first-out-requires
 first-out-requires c κs =
     let a = c .before .before .before .before .before .args in
-    let f = facts (a .l .capacity) (a .s .now) (a .n .0) (a .height) (a .row .0) (limitOf (a .next)) (sym (c .before .before .before .is-sound .ensures) ∙ not-false _ (c .before .before .if1 .left)) in
+    let f = facts (shapeOf (a .l)) (a .s .now) (a .n .0) (a .height) (a .row .0) (limitOf (a .next)) (sym (c .before .before .before .is-sound .ensures) ∙ not-false _ (c .before .before .if1 .left)) in
     (c .before .before .before .before .before .pre .0, (c .before .before .before .before .before .pre .1, omega (arith, f .many, c .before .part .ensures)))
 
 returns-3 : tie.Need-returns-3

@@ -7,6 +7,7 @@ use native.Mathlib.Omega.{arith}
 use borrow.Author.Tests.{not-true, not-false}
 use native.Mathlib.Nat.{sub-zero}
 use lib.ListN.{length, length-set}
+use Rattle.node.specs.Layout.{shapeOf}
 use Rattle.model.specs.Reading.{occ}
 use Rattle.model.specs.Append.{chainSound, firsts, past}
 use Rattle.pool.specs.Write.{listed}
@@ -17,8 +18,8 @@ use Rattle.pool.proofs.chain.read_chain.Tie as tie
 
 abbrev Inv-loop : tie.InvT-loop
 Inv-loop l s k nodes₀ n₀ i₀ nodes n i =
-    (i ≤ k) × (length nodes ≡ 32) × (chainSound (l .capacity) (l .pool) s (n₀ .0) [] k ≡ chainSound (l .capacity) (l .pool) s (n .0) (listed nodes 0 i) (k - i))
-    × (firsts (l .capacity) s (n₀ .0) k ≡ listed nodes 0 i ++ firsts (l .capacity) s (n .0) (k - i)) × (past (l .capacity) s (n₀ .0) k ≡ past (l .capacity) s (n .0) (k - i))
+    (i ≤ k) × (length nodes ≡ 32) × (chainSound (shapeOf l) (l .pool) s (n₀ .0) [] k ≡ chainSound (shapeOf l) (l .pool) s (n .0) (listed nodes 0 i) (k - i))
+    × (firsts (shapeOf l) s (n₀ .0) k ≡ listed nodes 0 i ++ firsts (shapeOf l) s (n .0) (k - i)) × (past (shapeOf l) s (n₀ .0) k ≡ past (shapeOf l) s (n .0) (k - i))
 
 abbrev μ-loop : tie.MeasureT-loop
 μ-loop l s k nodes₀ n₀ i₀ nodes n i = k - i
@@ -49,7 +50,7 @@ unfolding occ
 part-requires c κs =
     let a = c .before .before .before .before .before .before .before .args in
     let g = sym (c .before .before .before .is-link .ensures) ∙ not-false _ (c .before .before .if1 .left) in
-    let p = link-of (a .l .capacity) (a .l .pool) (a .s .now) (c .before .before .before .before .before .loop .n .0) [] g refl in
+    let p = link-of (shapeOf (a .l)) (a .l .pool) (a .s .now) (c .before .before .before .before .before .loop .n .0) [] g refl in
     (c .before .before .before .before .before .before .before .pre .0, (p .inside, omega arith))
 
 mul-nodes : tie.Need-mul-nodes Inv-loop μ-loop

@@ -3,23 +3,20 @@ use Prim.Native.Nat.{_-_}
 use mathlib.Core.Path.{_≡_, sym, _∙_}
 use native.Mathlib.Nat.{sub-zero}
 use Rattle.model.specs.Words.{copied, copyFrom}
-use Rattle.node.specs.Layout.{Fits}
+use Rattle.node.specs.Layout.{shapeOf, Fits}
 use Rattle.pool.proofs.Turns.{turn, stop}
 use Rattle.pool.proofs.write.copy_node.Statement.{statement}
 use Rattle.pool.proofs.write.copy_node.Tie as tie
 
 abbrev Inv-loop : tie.InvT-loop
 Inv-loop l s₀ from to size j₀ s j =
-    Fits l s × (copyFrom (l .capacity) s₀ (from .0) (to .0) 0 size ≡ copyFrom (l .capacity) s (from .0) (to .0) j (size - j))
+    Fits l s × (copyFrom (shapeOf l) s₀ (from .0) (to .0) 0 size ≡ copyFrom (shapeOf l) s (from .0) (to .0) j (size - j))
 
 abbrev μ-loop : tie.MeasureT-loop
 μ-loop l s₀ from to size j₀ s j = size - j
 
-mul-size : tie.Need-mul-size Inv-loop μ-loop
-mul-size c = search needs
-
-add-size : tie.Need-add-size Inv-loop μ-loop
-add-size c = search needs
+node-size-requires : tie.Need-node-size-requires Inv-loop μ-loop
+node-size-requires c κs = search needs
 
 loop-holds : tie.Need-loop-holds Inv-loop μ-loop
 loop-holds c = (search needs, rw sub-zero)
@@ -49,7 +46,7 @@ same-length c = search needs
 
 returns : tie.Need-returns Inv-loop μ-loop
 unfolding copied copyFrom
-returns c = sym (c .before .loop .inv .1 ∙ stop (copyFrom _ _ _ _ _) _ _ (c .loop-test .left))
+returns c = rw (← c .before .before .node-size .ensures) (sym (c .before .loop .inv .1 ∙ stop (copyFrom _ _ _ _ _) _ _ (c .loop-test .left)))
 
 pub copy-node-spec : {M : Type 1} → statement M
 copy-node-spec =
@@ -57,8 +54,7 @@ copy-node-spec =
     (tie.spec
     Inv-loop
     μ-loop
-    mul-size
-    add-size
+    node-size-requires
     loop-holds
     part-requires
     put-requires

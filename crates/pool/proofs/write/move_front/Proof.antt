@@ -3,14 +3,14 @@ use Prim.Native.Nat.{_-_, _≤_}
 use mathlib.Core.Path.{_≡_, sym, _∙_}
 use native.Mathlib.Nat.{sub-zero}
 use Rattle.model.specs.Prune.{moved}
-use Rattle.node.specs.Layout.{Fits}
+use Rattle.node.specs.Layout.{shapeOf, Fits}
 use Rattle.pool.proofs.Turns.{turn, stop}
 use Rattle.pool.proofs.write.move_front.Statement.{statement}
 use Rattle.pool.proofs.write.move_front.Tie as tie
 
 abbrev Inv-loop : tie.InvT-loop
 Inv-loop l s₀ n k m i₀ s i =
-    Fits l s × (i ≤ m) × (moved (l .capacity) s₀ (n .0) k 0 m ≡ moved (l .capacity) s (n .0) k i (m - i))
+    Fits l s × (i ≤ m) × (moved (shapeOf l) s₀ (n .0) k 0 m ≡ moved (shapeOf l) s (n .0) k i (m - i))
 
 abbrev μ-loop : tie.MeasureT-loop
 μ-loop l s₀ n k m i₀ s i = m - i

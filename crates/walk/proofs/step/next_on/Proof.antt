@@ -3,6 +3,7 @@ use mathlib.Core.Path.{_≡_, refl, sym, _∙_, ap}
 use Prim.Native.Nat.{ℕ}
 use native.Mathlib.Omega.{arith}
 use borrow.Author.Tests.{lt-ltb, le-ltb}
+use Rattle.node.specs.Layout.{shapeOf}
 use Rattle.model.specs.Paths.{stack, trail}
 use Rattle.model.specs.Tree.{Below}
 use Rattle.walk.specs.Left.{bound, Valid, ValidPath}
@@ -12,7 +13,7 @@ use Rattle.walk.proofs.step.next_on.Tie as tie
 
 abbrev Inv-loop : tie.InvT-loop
 Inv-loop l s path d₀ d =
-    (bound (l .capacity) s (stack (path .positions) d) ≡ bound (l .capacity) s (trail path)) × ((h : ℕ) × Valid (l .capacity) (l .pool) s h (stack (path .positions) d))
+    (bound (shapeOf l) s (stack (path .positions) d) ≡ bound (shapeOf l) s (trail path)) × ((h : ℕ) × Valid (shapeOf l) (l .pool) s h (stack (path .positions) d))
 
 abbrev μ-loop : tie.MeasureT-loop
 μ-loop l s path d₀ d = d

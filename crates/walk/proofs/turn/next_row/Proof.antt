@@ -1,6 +1,7 @@
 use borrow.Author.Needs.{needs}
 use mathlib.Core.Path.{sym, _∙_, ap}
 use native.Mathlib.Omega.{arith}
+use Rattle.node.specs.Layout.{shapeOf}
 use Rattle.model.specs.Tree.{Below}
 use Rattle.node.specs.Test.{limitOf}
 use Rattle.walk.proofs.Tests.{next-here, next-beyond}
@@ -20,10 +21,10 @@ row-requires : tie.Need-row-requires
 row-requires c κs = search needs
 
 returns : tie.Need-returns
-returns c = let a = c .before .before .before .before .args in ap Below (c .row .ensures) ∙ sym (next-here (a .l .capacity) (a .s .now) (a .n .0) (a .i) (limitOf (a .next)) (omega (arith, c .before .if1 .taken, c .before .before .part .ensures)))
+returns c = let a = c .before .before .before .before .args in ap Below (c .row .ensures) ∙ sym (next-here (shapeOf (a .l)) (a .s .now) (a .n .0) (a .i) (limitOf (a .next)) (omega (arith, c .before .if1 .taken, c .before .before .part .ensures)))
 
 returns-2 : tie.Need-returns-2
-returns-2 c = let a = c .before .before .before .args in sym (next-beyond (a .l .capacity) (a .s .now) (a .n .0) (a .i) (limitOf (a .next)) (omega (arith, c .if1 .left, c .before .part .ensures)))
+returns-2 c = let a = c .before .before .before .args in sym (next-beyond (shapeOf (a .l)) (a .s .now) (a .n .0) (a .i) (limitOf (a .next)) (omega (arith, c .if1 .left, c .before .part .ensures)))
 
 pub next-row-spec : {M : Type 1} → statement M
 next-row-spec = tie.close (tie.spec part-requires add-if1 add-row row-requires returns returns-2)

@@ -1,8 +1,9 @@
 use borrow.Author.Needs.{needs}
 use native.Mathlib.Omega.{arith}
-use mathlib.Core.Path.{ap, _∙_}
-use Rattle.model.specs.Words.{word, part, base}
-use Rattle.model.proofs.Words.{place, small}
+use mathlib.Core.Path.{ap}
+use Rattle.model.specs.Words.{word, part}
+use Rattle.model.proofs.Words.{small, index-lt}
+use Rattle.node.specs.Layout.{shapeOf}
 use Rattle.node.proofs.layout.Layout.part.Statement.{statement}
 use Rattle.node.proofs.layout.Layout.part.Tie as tie
 
@@ -12,16 +13,16 @@ place-requires c κs = search needs
 mul-result : tie.Need-mul-result
 mul-result c =
     let a = c .before .before in
-    omega (arith, c .place .ensures, place (a .args .self .capacity) (a .args .self .pool) (a .args .n .0) (a .args .j) (a .pre .1 .0) (a .pre .1 .1), small (a .args .self .capacity) (a .args .self .pool) (a .args .s .now) (a .pre .0))
+    omega (arith, c .place .ensures, index-lt (shapeOf (a .args .self)) (a .args .self .pool) (a .args .n .0) (a .args .j) (a .pre .1 .0) (a .pre .1 .1), small (a .args .self .capacity) (a .args .self .pool) (a .args .s .now) (a .pre .0))
 
 shared-slice-read-result : tie.Need-shared-slice-read-result
 shared-slice-read-result c =
     let a = c .before .before .before in
-    omega (arith, c .before .place .ensures, place (a .args .self .capacity) (a .args .self .pool) (a .args .n .0) (a .args .j) (a .pre .1 .0) (a .pre .1 .1), a .pre .0 .long)
+    omega (arith, c .before .place .ensures, index-lt (shapeOf (a .args .self)) (a .args .self .pool) (a .args .n .0) (a .args .j) (a .pre .1 .0) (a .pre .1 .1), a .pre .0 .long)
 
 returns : tie.Need-returns
 unfolding part
-returns c = ap (word (c .before .before .before .args .s .now)) (c .before .place .ensures)
+returns c = let a = c .before .before .before .args in ap (word (a .s .now)) (c .before .place .ensures)
 
 pub part-spec : {M : Type 1} → statement M
 part-spec = tie.close (tie.spec place-requires mul-result shared-slice-read-result returns)

@@ -1,5 +1,6 @@
 use borrow.Author.Needs.{needs}
 use mathlib.Core.Path.{ap, _∙_}
+use Rattle.node.specs.Layout.{shapeOf}
 use Rattle.model.specs.Words.{part}
 use Rattle.node.proofs.layout.Layout.row.Statement.{statement}
 use Rattle.node.proofs.layout.Layout.row.Tie as tie
@@ -13,7 +14,7 @@ part-requires c κs = search needs
 returns : tie.Need-returns
 returns c =
     let a = c .before .before .before .args in
-    c .part .ensures ∙ ap (part (a .self .capacity) (a .s .now) (a .n .0)) (c .before .row-place .ensures)
+    c .part .ensures ∙ ap (part (shapeOf (a .self)) (a .s .now) (a .n .0)) (c .before .row-place .ensures)
 
 pub row-spec : {M : Type 1} → statement M
 row-spec = tie.close (tie.spec row-place-requires part-requires returns)
