@@ -6,12 +6,12 @@ use native.Mathlib.Omega.{arith}
 use native.Mathlib.Numerals.{add-one}
 use lib.ListN.{length, set, take, drop, length-set, getD}
 use lib.Seq.{take-suc, length-take-le}
-use Rattle.model.specs.Words.{lent, shape, fill, part, row, child, Header}
+use Rattle.model.specs.Words.{lent, shape, fill, part, row, child, pairWords, Header}
 use Rattle.model.specs.LeafWalk.{pageEntry, records}
 use Rattle.model.specs.declared.node.PageEntry.{PageEntry}
 use Rattle.model.proofs.Fill.{length-fill, fill-snoc}
-use Rattle.node.specs.Layout.{shapeOf, Fits, pairWords}
-use Rattle.node.proofs.Parts.{pair-first}
+use Rattle.model.proofs.Parts.{pair-first}
+use Rattle.node.specs.Layout.{shapeOf, Fits}
 use Rattle.listing.specs.Listing.{recordsOf}
 use Rattle.listing.specs.declared.LeafEntries.{LeafEntries}
 use Rattle.byvalue.specs.Written.{wordsOf}

@@ -5,7 +5,6 @@ use mathlib.Core.Path.{_≡_, refl, sym, _∙_, ap, subst}
 use mathlib.Core.List.{List, [], _∷_}
 use mathlib.Core.Bool.{Bool, true, false, _&&_}
 use native.Mathlib.Omega.{arith}
-use native.Mathlib.Nat.{le-mul-of-pos-right}
 use lib.ListN.{length}
 use lib.Dec.{T, leb, ltb, eqb}
 use borrow.Author.Tests.{ltb-true, ltb-false, leb-false, lt-ltb, le-ltb, eqb-true, eqb-false}
@@ -17,6 +16,7 @@ use Rattle.model.specs.LeafWalk.{cursorAt, isLast, given, nextLeafOf, givesLeaf
 use Rattle.model.specs.declared.node.PageEntry.{PageEntry}
 use Rattle.model.specs.declared.cursor.RowPageIndexMemCursor.{RowPageIndexMemCursor}
 use Rattle.model.proofs.Sound.{sound-ends, meets-is}
+use Rattle.model.proofs.Words.{nodes-few}
 use Rattle.model.proofs.Header.{header-of}
 use Rattle.model.proofs.Tests.{by-test, holds}
 use Rattle.text.specs.Lines.{Puts}
@@ -163,7 +163,7 @@ left-bound w c =
     by-test (headerOk w)
     (λ h. let few = above-few (storeShape lent w) w (c .«row_id» .0) (pool w) in
     let fits = header-of w h .fits in
-    let many = le-mul-of-pos-right {m = 4 + 2 * capacity w} (pool w) (omega arith) in
+    let many = nodes-few (capacity w) (pool w) w fits in
     by-test (c .done) (λ t. rw (h, t) (omega arith)) (λ t. rw (h, t) (omega arith)))
     (λ h. rw h (omega arith))
 

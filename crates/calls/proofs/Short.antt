@@ -4,7 +4,6 @@ use mathlib.Core.Path.{_≡_, refl}
 use mathlib.Core.List.{List, [], _∷_, _++_}
 use mathlib.Core.Bool.{true, false, _&&_, _||_}
 use native.Mathlib.Omega.{arith}
-use native.Mathlib.Nat.{mul-le-mul-left}
 use lib.ListN.{length, take, length-append, length-take}
 use lib.Dec.{leb, ltb, eqb}
 use Rattle.model.specs.Words.{storeShape, lent, Shape, capacity, pool, root, freeHead, freeCount, height, count, start, end, storeLength, capacityOk, poolOk, rowLimit, maxHeight}
@@ -22,6 +21,7 @@ use Rattle.model.specs.Release.{Released, firstLow, destroy}
 use Rattle.model.specs.declared.node.PageEntry.{PageEntry}
 use Rattle.model.specs.declared.cursor.RowPageIndexMemCursor.{RowPageIndexMemCursor}
 use Rattle.model.proofs.Tests.{by-test}
+use Rattle.model.proofs.Words.{nodes-few}
 use Rattle.model.proofs.Header.{header-of}
 use Rattle.text.specs.Lines.{digitsOf, decimal, numbers, line, digit}
 use Rattle.records.specs.Records.{Call, Create, Append, Find, Prune, Walk, Release, Bad}
@@ -222,11 +222,10 @@ walk-lines w (suc k) c =
     (λ t. omega (arith, leaf-short (s .answer) (walkLines w k (s .cursor)) f, walk-lines w k (s .cursor), falls w c lentRecords t))
     (λ t. rw (leaf-last (s .answer) (walkLines w k (s .cursor)) t) (omega (arith, leaf-short (s .answer) [] f, left-some w c)))
 
--- 8 + P × (4 + 2 × C) words, and C at least 2
 pool-small : (w : List ℕ) → length w ≤ 4096 → headerOk w ≡ true → pool w ≤ 511
 pool-small w h t =
     let fits = header-of w t .fits in
-    omega (arith, fits .long, mul-le-mul-left {m = 8} {n = 4 + 2 * capacity w} (pool w) (omega (arith, fits .cap-low)))
+    omega (arith, nodes-few (capacity w) (pool w) w fits)
 
 left-small : (w : List ℕ) (c : RowPageIndexMemCursor) → length w ≤ 4096 → left w c ≤ 513
 left-small w c h =

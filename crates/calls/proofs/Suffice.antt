@@ -4,7 +4,7 @@ use mathlib.Core.Path.{_≡_, refl, sym, _∙_, ap}
 use mathlib.Core.List.{List}
 use mathlib.Core.Bool.{Bool, true, false}
 use native.Mathlib.Omega.{arith}
-use native.Mathlib.Nat.{add-mul, mul-assoc, mul-comm, mul-le-mul-left, mul-le-mul-right}
+use native.Mathlib.Nat.{mul-le-mul-left, mul-le-mul-right}
 use lib.ListN.{length, length-replicate}
 use lib.Dec.{leb, ltb, eqb}
 use borrow.Author.Tests.{le-ltb, le-leb, eqb-false}
@@ -15,6 +15,7 @@ use Rattle.model.specs.LeafWalk.{pageEntry, given, nextLeafOf}
 use Rattle.model.specs.Release.{Released, firstLow, destroy}
 use Rattle.model.specs.declared.cursor.RowPageIndexMemCursor.{RowPageIndexMemCursor}
 use Rattle.model.proofs.Tests.{by-test}
+use Rattle.model.proofs.Words.{slots-are}
 use Rattle.model.proofs.Header.{header-of}
 use Rattle.formed.proofs.Rooted.{root-sound}
 use Rattle.formed.proofs.Few.{root-few-nodes, root-few-entries}
@@ -30,9 +31,7 @@ module _ (w : List ℕ) (small : length w ≤ 4096) where
     product : 4 * pool w + 2 * (capacity w * pool w) ≤ 4088
     product =
         let fits = header-of w h .fits in
-        let e : pool w * (4 + 2 * capacity w) ≡ 4 * pool w + 2 * (capacity w * pool w) =
-        mul-comm (pool w) (4 + 2 * capacity w) ∙ add-mul 4 (2 * capacity w) (pool w) ∙ ap (λ (x : ℕ). 4 * pool w + x) (mul-assoc 2 (capacity w) (pool w)) in
-        omega (arith, fits .long)
+        omega (arith, slots-are (capacity w) (pool w) w fits)
 
     capacity-small : capacity w ≤ 2048
     capacity-small = let fits = header-of w h .fits in omega (arith, product, mul-le-mul-left (capacity w) (fits .pool-low))

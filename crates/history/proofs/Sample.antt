@@ -15,7 +15,7 @@ use Rattle.model.specs.Reading.{endFits, passes, visits, rootVisits, firstBad, 
 use Rattle.model.specs.Refusals.{headerOk}
 use Rattle.model.specs.Release.{firstLow, releasedWords, destroy}
 use Rattle.model.specs.Tree.{pairsFrom, rising, firstRow, lastRow, meets, endSound, sound, emptyRoot, rootSound, level, next, last, overPairs}
-use Rattle.model.specs.Words.{lent, stands, index, part, put, emptied, added, copyFrom, copied, freed, freeAll, fill}
+use Rattle.model.specs.Words.{lent, stands, wordPlace, part, put, emptied, added, copyFrom, copied, freed, freeAll, fill}
 use Rattle.history.specs.Calls.{Loan, nothing, withPages, Call, append, lookup, prune, seekRow, release, reply, State, holding, closed, ifDone, stateAfter, History, Place, begin, run}
 
 -- room for five page ids
@@ -41,10 +41,10 @@ range e x = record { end = e; page = x }
 
 -- a prune is refused, another is accepted; lookups and seeks change nothing
 pub cut-at-twenty : after (five (prune 0 20 (1 ∷ 3 ∷ []) ∷ prune 0 20 (1 ∷ 2 ∷ []) ∷ lookup 20 ∷ seekRow 5 ∷ [])) ≡ holding (record { start = 20; ranges = range 30 3 ∷ range 40 4 ∷ range 50 5 ∷ [] })
-unfolding appendStart roomFrom room firsts past chainSound taken fresh topOf endOver newPath hang raised splitRoot appendAt appendTo insertRowPage chained newStore create ifGone keep cutPairs trim cut wentPairs went trimsPairs trims kept endFrom ledgerEnd ledgerAppend foundIn findInTree tryFindRow moved trimmed trimAll copyAll pruneTree against entryEnd scanLeaf spoilt scan ranOut before atLast copiesFrom rootCopies pruneWith pruneScanned pruneRoot pruneCheckpointPrefix endFits passes visits rootVisits firstBad entries inPairs nodes occ nextRow checked descend rootLeaf lastNotAbove headerOk pairsFrom rising firstRow lastRow meets endSound sound emptyRoot rootSound level next last overPairs stands index part put emptied added copyFrom copied freed freeAll fill reply ifDone stateAfter run
+unfolding appendStart roomFrom room firsts past chainSound taken fresh topOf endOver newPath hang raised splitRoot appendAt appendTo insertRowPage chained newStore create ifGone keep cutPairs trim cut wentPairs went trimsPairs trims kept endFrom ledgerEnd ledgerAppend foundIn findInTree tryFindRow moved trimmed trimAll copyAll pruneTree against entryEnd scanLeaf spoilt scan ranOut before atLast copiesFrom rootCopies pruneWith pruneScanned pruneRoot pruneCheckpointPrefix endFits passes visits rootVisits firstBad entries inPairs nodes occ nextRow checked descend rootLeaf lastNotAbove headerOk pairsFrom rising firstRow lastRow meets endSound sound emptyRoot rootSound level next last overPairs stands wordPlace part put emptied added copyFrom copied freed freeAll fill reply ifDone stateAfter run
 cut-at-twenty = refl
 
 -- a release is refused, another is accepted, and the store is closed from there on
 pub released : after (five (release 1 ∷ release 0 ∷ append 10 6 ∷ [])) ≡ closed
-unfolding appendStart roomFrom room firsts past chainSound taken fresh topOf endOver newPath hang raised splitRoot appendAt appendTo insertRowPage chained newStore create endFrom ledgerEnd ledgerAppend endFits passes visits rootVisits firstBad entries inPairs nodes occ nextRow checked descend rootLeaf lastNotAbove headerOk firstLow releasedWords destroy pairsFrom rising firstRow lastRow meets endSound sound emptyRoot rootSound level next last overPairs stands index part put emptied added copyFrom copied freed freeAll fill reply ifDone stateAfter run
+unfolding appendStart roomFrom room firsts past chainSound taken fresh topOf endOver newPath hang raised splitRoot appendAt appendTo insertRowPage chained newStore create endFrom ledgerEnd ledgerAppend endFits passes visits rootVisits firstBad entries inPairs nodes occ nextRow checked descend rootLeaf lastNotAbove headerOk firstLow releasedWords destroy pairsFrom rising firstRow lastRow meets endSound sound emptyRoot rootSound level next last overPairs stands wordPlace part put emptied added copyFrom copied freed freeAll fill reply ifDone stateAfter run
 released = refl

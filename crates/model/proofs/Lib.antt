@@ -1,6 +1,7 @@
 pub mod Tests
 pub mod Words
 pub mod Header
+pub mod Parts
 pub mod Sound
 pub mod Frame
 pub mod Once

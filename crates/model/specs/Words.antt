@@ -5,7 +5,7 @@ use Prim.Native.Nat.{ℕ, zero, suc, _+_, _*_, _-_, _^_, _≤_}
 use mathlib.Core.List.{List, [], _∷_}
 use mathlib.Core.Bool.{Bool, true, false, _&&_}
 use mathlib.Core.Path.{_≡_}
-use lib.ListN.{getD, set, length}
+use lib.ListN.{getD, set, length, take, drop}
 use lib.Dec.{leb, eqb}
 
 -- one of two, by a test
@@ -86,16 +86,16 @@ unfoldable pub stands : Arrangement → ℕ → ℕ → ℕ
 stands Pairs C k = k
 
 -- "Node n starts at word 8 + n × (4 + 2 × C)": where its word j stands
-unfoldable pub index : Shape → ℕ → ℕ → ℕ
-index C n j = 8 + stands (C .slots) (C .cap) (n * nodeSize (C .cap) + j)
+unfoldable pub wordPlace : Shape → ℕ → ℕ → ℕ
+wordPlace C n j = 8 + stands (C .slots) (C .cap) (n * nodeSize (C .cap) + j)
 
 -- word j of node n
 unfoldable pub part : Shape → List ℕ → ℕ → ℕ → ℕ
-part C w n j = word w (index C n j)
+part C w n j = word w (wordPlace C n j)
 
 -- word j of node n becomes x
 unfoldable pub put : Shape → List ℕ → ℕ → ℕ → ℕ → List ℕ
-put C w n j x = set w (index C n j) x
+put C w n j x = set w (wordPlace C n j) x
 
 -- Which of a node's words are row i and page or child number i: 01's numbers, in every arrangement.
 abbrev pub rowPlace : ℕ → ℕ
@@ -123,6 +123,10 @@ module _ (C : Shape) (w : List ℕ) (n : ℕ) where
 
   abbrev pub child : ℕ → ℕ
   child i = part C w n (childPlace i)
+
+-- "The entries of a node are handed back as that part of the store's words": in pairs, pairs i, i + 1, …, k of them
+abbrev pub pairWords : Shape → List ℕ → ℕ → ℕ → ℕ → List ℕ
+pairWords C w n i k = take (2 * k) (drop (wordPlace C n (rowPlace i)) w)
 
 -- "A free node has height 2^32 − 1 and the next free number, or P, as its count."
 abbrev pub freeMark : ℕ

@@ -1,9 +1,8 @@
 -- What the reading functions answer, on words.
 use Prim.Native.Nat.{ℕ, zero, suc, _+_, _*_}
 use mathlib.Core.List.{List, [], _∷_}
-use lib.ListN.{take, drop}
 use lib.Dec.{eqb}
-use Rattle.model.specs.Words.{lent, Shape, shape, pick, capacity, pool, root, freeHead, freeCount, index, rowPlace, part, height, count, start, end, Header}
+use Rattle.model.specs.Words.{lent, Shape, shape, pick, capacity, pool, root, freeHead, freeCount, part, height, count, start, end, Header}
 use Rattle.model.specs.Refusals.{headerOk}
 use Rattle.model.specs.declared.node.RowPageIndexNodeHeader.{RowPageIndexNodeHeader}
 use Rattle.model.specs.declared.answer.Refusal.the-variants.{Closed, Unsound}
@@ -28,10 +27,6 @@ headerAt C w n =
       «start_row_id» = record { 0 = start C w n };
       «end_row_id» = record { 0 = end C w n };
     }
-
--- "The entries of a node are handed back as that part of the store's words": pairs i, i + 1, …, k of them
-abbrev pub pairWords : Shape → List ℕ → ℕ → ℕ → ℕ → List ℕ
-pairWords C w n i k = take (2 * k) (drop (index C n (rowPlace i)) w)
 
 abbrev pub storeHeader : List ℕ → StoreHeader
 storeHeader w =

@@ -3,8 +3,8 @@
 ghost use mathlib.Core.Path.{_≡_};
 ghost use Prim.Native.Nat.{_+_, _*_, _≤_, _<_};
 ghost use lib.ListN.{length};
-ghost use Rattle.model.specs.Words.{child, childPlace, inRange, index, nodeSize, part, row, rowPlace, sized, storeLength};
-ghost use Rattle.node.specs.Layout.{Fits, headerAt, pairWords, shapeOf};
+ghost use Rattle.model.specs.Words.{child, childPlace, inRange, nodeSize, pairWords, part, row, rowPlace, sized, storeLength, wordPlace};
+ghost use Rattle.node.specs.Layout.{Fits, headerAt, shapeOf};
 use model::id::NodeNo;
 use model::id::PageID;
 use model::id::RowID;
@@ -74,7 +74,7 @@ impl Layout {
     // The place of word j of node n among the store's words.
     pub fn place(self, n: NodeNo, j: u64) -> usize
         requires { ⌜ (self .capacity ≤ 4094) × (n .0 ≤ 65535) × (j < nodeSize (self .capacity)) ⌝ }
-        ensures { λ r. ⌜ r ≡ index (shapeOf self) (n .0) j ⌝ }
+        ensures { λ r. ⌜ r ≡ wordPlace (shapeOf self) (n .0) j ⌝ }
     {
         (8 + n.0 * self.node_size() + j) as usize
     }

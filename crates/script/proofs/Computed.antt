@@ -11,7 +11,7 @@ use Rattle.model.specs.Reading.{endFits, passes, visits, rootVisits, firstBad, 
 use Rattle.model.specs.Refusals.{headerOk}
 use Rattle.model.specs.Release.{firstLow, releasedWords, destroy}
 use Rattle.model.specs.Tree.{pairsFrom, rising, firstRow, lastRow, meets, endSound, sound, emptyRoot, rootSound, level, next, last, overPairs}
-use Rattle.model.specs.Words.{stands, index, part, put, emptied, added, copyFrom, copied, freed, freeAll, fill}
+use Rattle.model.specs.Words.{stands, wordPlace, part, put, emptied, added, copyFrom, copied, freed, freeAll, fill}
 use Rattle.text.specs.Lines.{digitsOf, decimal, numbers, line}
 use Rattle.records.specs.Records.{little, wordsIn, callOf, asked, whole, first}
 use Rattle.lines.specs.Answers.{answerLine, findLine, leafLines}
@@ -20,5 +20,5 @@ use Rattle.script.specs.Script.{listingFrom, listingOf, listing}
 use Rattle.script.specs.Example.{bytes, wordBytes, Case, cases}
 
 pub computed : map (λ (c : Case). listing (c .0)) cases ≡ map (λ (c : Case). c .1) cases
-unfolding appendStart roomFrom room firsts past chainSound taken fresh topOf endOver newPath hang raised splitRoot appendAt appendTo insertRowPage chained newStore create ifGone keep cutPairs trim cut wentPairs went trimsPairs trims kept records isLast given nextLeafOf foundIn findInTree tryFindRow moved trimmed trimAll copyAll pruneTree against entryEnd scanLeaf spoilt scan ranOut before atLast copiesFrom rootCopies pruneWith pruneScanned pruneRoot pruneCheckpointPrefix endFits passes visits rootVisits firstBad entries inPairs nodes occ nextRow checked descend rootLeaf lastNotAbove headerOk firstLow releasedWords destroy pairsFrom rising firstRow lastRow meets endSound sound emptyRoot rootSound level next last overPairs stands index part put emptied added copyFrom copied freed freeAll fill digitsOf decimal numbers line little wordsIn callOf asked whole answerLine findLine leafLines walkLines createLength ifAccepted perform first listingFrom listingOf bytes wordBytes
+unfolding appendStart roomFrom room firsts past chainSound taken fresh topOf endOver newPath hang raised splitRoot appendAt appendTo insertRowPage chained newStore create ifGone keep cutPairs trim cut wentPairs went trimsPairs trims kept records isLast given nextLeafOf foundIn findInTree tryFindRow moved trimmed trimAll copyAll pruneTree against entryEnd scanLeaf spoilt scan ranOut before atLast copiesFrom rootCopies pruneWith pruneScanned pruneRoot pruneCheckpointPrefix endFits passes visits rootVisits firstBad entries inPairs nodes occ nextRow checked descend rootLeaf lastNotAbove headerOk firstLow releasedWords destroy pairsFrom rising firstRow lastRow meets endSound sound emptyRoot rootSound level next last overPairs stands wordPlace part put emptied added copyFrom copied freed freeAll fill digitsOf decimal numbers line little wordsIn callOf asked whole answerLine findLine leafLines walkLines createLength ifAccepted perform first listingFrom listingOf bytes wordBytes
 computed = refl

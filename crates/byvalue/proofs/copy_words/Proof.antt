@@ -5,7 +5,7 @@ use native.Mathlib.Omega.{arith}
 use lib.ListN.{length}
 use Rattle.model.specs.Words.{fill}
 use Rattle.node.specs.Layout.{shapeOf}
-use Rattle.node.proofs.Parts.{pairs-few}
+use Rattle.model.proofs.Parts.{pairs-few}
 use Rattle.listing.specs.Listing.{recordsOf}
 use Rattle.byvalue.specs.Written.{wordsOf}
 use Rattle.byvalue.proofs.Writing.{pairs-all, no-pairs}

@@ -1,7 +1,7 @@
 use borrow.Author.Needs.{needs}
 use native.Mathlib.Omega.{arith}
 use Rattle.model.specs.Words.{put}
-use Rattle.model.proofs.Words.{small, index-lt}
+use Rattle.model.proofs.Words.{small, place-lt}
 use Rattle.node.specs.Layout.{shapeOf}
 use Rattle.pool.proofs.write.put.Statement.{statement}
 use Rattle.pool.proofs.write.put.Tie as tie
@@ -12,12 +12,12 @@ place-requires c κs = search needs
 mul-s : tie.Need-mul-s
 mul-s c =
     let a = c .before .before in
-    omega (arith, c .place .ensures, index-lt (shapeOf (a .args .l)) (a .args .l .pool) (a .args .n .0) (a .args .j) (a .pre .1 .0) (a .pre .1 .1), small (a .args .l .capacity) (a .args .l .pool) (a .args .s .now) (a .pre .0))
+    omega (arith, c .place .ensures, place-lt (shapeOf (a .args .l)) (a .args .l .pool) (a .args .n .0) (a .args .j) (a .pre .1 .0) (a .pre .1 .1), small (a .args .l .capacity) (a .args .l .pool) (a .args .s .now) (a .pre .0))
 
 slice-write-s : tie.Need-slice-write-s
 slice-write-s c =
     let a = c .before .before in
-    omega (arith, c .place .ensures, index-lt (shapeOf (a .args .l)) (a .args .l .pool) (a .args .n .0) (a .args .j) (a .pre .1 .0) (a .pre .1 .1), a .pre .0 .long)
+    omega (arith, c .place .ensures, place-lt (shapeOf (a .args .l)) (a .args .l .pool) (a .args .n .0) (a .args .j) (a .pre .1 .0) (a .pre .1 .1), a .pre .0 .long)
 
 same-length : tie.Need-same-length
 same-length c = search needs

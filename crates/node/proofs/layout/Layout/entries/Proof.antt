@@ -3,10 +3,10 @@ use native.Mathlib.Omega.{arith}
 use Prim.Native.Nat.{_+_, _*_, _-_, _≤_}
 use mathlib.Core.Path.{_≡_, ap, _∙_}
 use lib.ListN.{length, take, drop}
-use Rattle.model.specs.Words.{index, rowPlace}
+use Rattle.model.specs.Words.{wordPlace, rowPlace}
 use Rattle.model.proofs.Words.{small}
 use Rattle.node.specs.Layout.{shapeOf}
-use Rattle.node.proofs.Parts.{pairs-inside}
+use Rattle.model.proofs.Parts.{pairs-inside}
 use Rattle.node.proofs.layout.Layout.entries.Statement.{statement}
 use Rattle.node.proofs.layout.Layout.entries.Tie as tie
 
@@ -22,14 +22,14 @@ mul-end c = search needs
 add-end : tie.Need-add-end
 add-end c =
     let a = c .before .before .before in
-    let at = c .place .ensures ∙ ap (index (shapeOf (a .args .self)) (a .args .n .0)) (c .before .row-place .ensures) in
+    let at = c .place .ensures ∙ ap (wordPlace (shapeOf (a .args .self)) (a .args .n .0)) (c .before .row-place .ensures) in
     let inside = pairs-inside (a .args .self .capacity) (a .args .self .pool) (a .args .s .now) (a .pre .0) (a .args .n .0) (a .args .k) (a .pre .1 .0) (a .pre .1 .1) in
     omega (arith, at, inside, small (a .args .self .capacity) (a .args .self .pool) (a .args .s .now) (a .pre .0))
 
 mul-result : tie.Need-mul-result
 mul-result c =
     let a = c .before .before .before in
-    let at = c .place .ensures ∙ ap (index (shapeOf (a .args .self)) (a .args .n .0)) (c .before .row-place .ensures) in
+    let at = c .place .ensures ∙ ap (wordPlace (shapeOf (a .args .self)) (a .args .n .0)) (c .before .row-place .ensures) in
     let inside = pairs-inside (a .args .self .capacity) (a .args .self .pool) (a .args .s .now) (a .pre .0) (a .args .n .0) (a .args .k) (a .pre .1 .0) (a .pre .1 .1) in
     omega (arith, at, inside, small (a .args .self .capacity) (a .args .self .pool) (a .args .s .now) (a .pre .0))
 
@@ -42,13 +42,13 @@ part-result-start c = search needs
 part-result-end : tie.Need-part-result-end
 part-result-end c =
     let a = c .before .before .before in
-    let at = c .place .ensures ∙ ap (index (shapeOf (a .args .self)) (a .args .n .0)) (c .before .row-place .ensures) in
+    let at = c .place .ensures ∙ ap (wordPlace (shapeOf (a .args .self)) (a .args .n .0)) (c .before .row-place .ensures) in
     omega (arith, at, pairs-inside (a .args .self .capacity) (a .args .self .pool) (a .args .s .now) (a .pre .0) (a .args .n .0) (a .args .k) (a .pre .1 .0) (a .pre .1 .1))
 
 returns : tie.Need-returns
 returns c =
     let a = c .before .before .before .before .args in
-    let at = c .before .place .ensures ∙ ap (index (shapeOf (a .self)) (a .n .0)) (c .before .before .row-place .ensures) in
+    let at = c .before .place .ensures ∙ ap (wordPlace (shapeOf (a .self)) (a .n .0)) (c .before .before .row-place .ensures) in
     let long : c .before .place .result + 2 * a .k - c .before .place .result ≡ 2 * a .k = omega arith in
     rw (long, at)
 

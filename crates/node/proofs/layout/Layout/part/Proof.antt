@@ -2,7 +2,7 @@ use borrow.Author.Needs.{needs}
 use native.Mathlib.Omega.{arith}
 use mathlib.Core.Path.{ap}
 use Rattle.model.specs.Words.{word, part}
-use Rattle.model.proofs.Words.{small, index-lt}
+use Rattle.model.proofs.Words.{small, place-lt}
 use Rattle.node.specs.Layout.{shapeOf}
 use Rattle.node.proofs.layout.Layout.part.Statement.{statement}
 use Rattle.node.proofs.layout.Layout.part.Tie as tie
@@ -13,12 +13,12 @@ place-requires c κs = search needs
 mul-result : tie.Need-mul-result
 mul-result c =
     let a = c .before .before in
-    omega (arith, c .place .ensures, index-lt (shapeOf (a .args .self)) (a .args .self .pool) (a .args .n .0) (a .args .j) (a .pre .1 .0) (a .pre .1 .1), small (a .args .self .capacity) (a .args .self .pool) (a .args .s .now) (a .pre .0))
+    omega (arith, c .place .ensures, place-lt (shapeOf (a .args .self)) (a .args .self .pool) (a .args .n .0) (a .args .j) (a .pre .1 .0) (a .pre .1 .1), small (a .args .self .capacity) (a .args .self .pool) (a .args .s .now) (a .pre .0))
 
 shared-slice-read-result : tie.Need-shared-slice-read-result
 shared-slice-read-result c =
     let a = c .before .before .before in
-    omega (arith, c .before .place .ensures, index-lt (shapeOf (a .args .self)) (a .args .self .pool) (a .args .n .0) (a .args .j) (a .pre .1 .0) (a .pre .1 .1), a .pre .0 .long)
+    omega (arith, c .before .place .ensures, place-lt (shapeOf (a .args .self)) (a .args .self .pool) (a .args .n .0) (a .args .j) (a .pre .1 .0) (a .pre .1 .1), a .pre .0 .long)
 
 returns : tie.Need-returns
 unfolding part
