@@ -23,17 +23,8 @@ pub record Arrays : Type 0 where
   pub cursor : List ℕ
   pub records : List ℕ
 
-abbrev pub onWords : List ℕ → Arrays
-onWords w = record { words = w; pages = []; cursor = []; records = [] }
-
-abbrev pub onPages : List ℕ → List ℕ → Arrays
-onPages w l = record { words = w; pages = l; cursor = []; records = [] }
-
-abbrev pub onCursor : List ℕ → Arrays
-onCursor c = record { words = []; pages = []; cursor = c; records = [] }
-
-abbrev pub onWalk : List ℕ → List ℕ → List ℕ → Arrays
-onWalk w c l = record { words = w; pages = []; cursor = c; records = l }
+abbrev pub nothing : Arrays
+nothing = record { words = []; pages = []; cursor = []; records = [] }
 
 module _ (m : Arrays) where
   abbrev pub withWords : List ℕ → Arrays
@@ -47,6 +38,19 @@ module _ (m : Arrays) where
 
   abbrev pub withRecords : List ℕ → Arrays
   withRecords l = record { words = m .words; pages = m .pages; cursor = m .cursor; records = l }
+
+-- what each kind of function is lent
+abbrev pub onWords : List ℕ → Arrays
+onWords w = withWords nothing w
+
+abbrev pub onPages : List ℕ → List ℕ → Arrays
+onPages w l = withPages (onWords w) l
+
+abbrev pub onCursor : List ℕ → Arrays
+onCursor c = withCursor nothing c
+
+abbrev pub onWalk : List ℕ → List ℕ → List ℕ → Arrays
+onWalk w c l = withRecords (withCursor (onWords w) c) l
 
 -- each function, with what it takes by value or only reads
 pub data Function : Type 0 where
