@@ -35,10 +35,7 @@ endFrom s (g ∷ gs) = endFrom (g .end) gs
 unfoldable pub ledgerEnd : Ledger → ℕ
 ledgerEnd l = endFrom (l .start) (l .ranges)
 
--- Append: k rows with page x; 4 for no rows or an end above 2^62
-unfoldable pub appendOk : Ledger → ℕ → Bool
-appendOk l k = ltb 0 k && leb (ledgerEnd l + k) rowLimit
-
+-- Append: k rows with page x
 unfoldable pub ledgerAppend : Ledger → ℕ → ℕ → Ledger
 ledgerAppend l k x = record { start = l .start; ranges = l .ranges ++ ((record { end = ledgerEnd l + k; page = x }) ∷ []) }
 

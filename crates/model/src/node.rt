@@ -1,7 +1,7 @@
 // The header of a node, and an entry.
 
 ghost use mathlib.Core.Path.{_≡_};
-ghost use lib.Dec.{eqb, leb, ltb};
+ghost use lib.Dec.{eqb, leb};
 ghost use Rattle.model.specs.Words.{NONE, freeMark, maxHeight, rowLimit};
 ghost use Rattle.model.specs.LeafWalk.{pageEntry};
 use crate::id::PageID;
@@ -28,12 +28,6 @@ impl RowPageIndexNodeHeader {
         ensures { λ r. ⌜ r ≡ eqb (self .height) 0 ⌝ }
     {
         self.height == 0
-    }
-
-    pub fn is_branch(self) -> bool
-        ensures { λ r. ⌜ r ≡ ltb 0 (self .height) ⌝ }
-    {
-        0 < self.height
     }
 
     pub fn is_full(self, capacity: u64) -> bool

@@ -38,11 +38,11 @@ pub record Barred (ends : Bool) (C : Shape) (P : ℕ) (w : List ℕ) (n i : ℕ)
   pub number : c ≡ child C w n i
   pub bad : passes ends C (height C w n - 1) (nodeAt C w (child C w n i)) (row C w n i) (nextRow C w n i b) ≡ false
 
-module _ (ends : Bool) (C : Shape) (P : ℕ) (w : List ℕ) (n i : ℕ) (b : Limit) where
+module _ (C : Shape) (P : ℕ) (w : List ℕ) (n i : ℕ) (b : Limit) where
   test : Bool
-  test = passes ends C (height C w n - 1) (nodeAt C w (child C w n i)) (row C w n i) (nextRow C w n i b)
+  test = passes false C (height C w n - 1) (nodeAt C w (child C w n i)) (row C w n i) (nextRow C w n i b)
 
-  pub went : (c : ℕ) (next : Limit) (first : ℕ) → goes c next first ≡ entering ends C P w n i b → Went ends C P w n i b c next first
+  pub went : (c : ℕ) (next : Limit) (first : ℕ) → goes c next first ≡ entering C P w n i b → Went false C P w n i b c next first
   unfolding entering test
   went c next first e =
       by-test test
@@ -50,7 +50,7 @@ module _ (ends : Bool) (C : Shape) (P : ℕ) (w : List ℕ) (n i : ℕ) (b : Lim
       record { number = cc; beyond = cc; out = cc; good = t })
       (λ t. let q : goes c next first ≡ stops (child C w n i) = rw t at e in let z : _≡_ {A = ℕ} 0 1 = cc in absurd (omega arith))
 
-  pub barred : (c : ℕ) → stops c ≡ entering ends C P w n i b → Barred ends C P w n i b c
+  pub barred : (c : ℕ) → stops c ≡ entering C P w n i b → Barred false C P w n i b c
   unfolding entering test
   barred c e =
       by-test test

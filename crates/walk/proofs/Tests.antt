@@ -13,7 +13,7 @@ use Rattle.model.proofs.Tests.{by-test}
 use Rattle.node.specs.Test.{firstOut, nodeTest}
 use Rattle.node.specs.declared.test.NodeTest.{NodeTest}
 use Rattle.node.specs.declared.test.NodeTest.the-variants.{Unsound, Sound}
-use Rattle.walk.specs.Turn.{hasChild, outOf, passTest, Entering, goes, stops, entering}
+use Rattle.walk.specs.Turn.{hasChild, outOf, Entering, goes, stops, entering}
 
 pub ends-leaf : (h : ℕ) (b : Limit) (e : ℕ) → h ≡ 0 → endFits h b e ≡ true
 unfolding endFits
@@ -36,17 +36,10 @@ ends-below zero r e z q = absurd (z refl)
 ends-below (suc h) r e z q = rw (ne-eqb e NONE q)
 
 module _ (C : Shape) (P : ℕ) (w : List ℕ) (n h r : ℕ) (b : Limit) where
-  pub pass-plain : passTest false C P w n h r b ≡ nodeTest C P w n h r b
-  unfolding passTest passes nodeTest outOf
-  pass-plain = rw (and-true (sound C h (nodeAt C w n) r b))
-
-  pub pass-ends : endFits h b (end C w n) ≡ true → passTest true C P w n h r b ≡ nodeTest C P w n h r b
-  unfolding passTest passes nodeTest outOf
-  pass-ends e = rw (e, and-true (sound C h (nodeAt C w n) r b))
-
-  pub pass-not : endFits h b (end C w n) ≡ false → passTest true C P w n h r b ≡ Unsound
-  unfolding passTest passes
-  pass-not e = rw (e, and-false (sound C h (nodeAt C w n) r b))
+  -- the node test is what the walk asks of a node where ends are not looked at
+  pub test-passes : nodeTest C P w n h r b ≡ pick (passes false C h (nodeAt C w n) r b) (Sound (outOf C P w h n)) Unsound
+  unfolding passes nodeTest outOf
+  test-passes = rw (and-true (sound C h (nodeAt C w n) r b))
 
 module _ (C : Shape) (w : List ℕ) (n i : ℕ) where
   pub no-child : height C w n ≡ 0 → hasChild C w n i ≡ false
@@ -65,37 +58,32 @@ module _ (C : Shape) (w : List ℕ) (n i : ℕ) where
   unfolding nextRow
   next-beyond b l = rw (le-ltb (i + 1) (count C w n) l)
 
--- what the test of child i of branch n says
-module _ (ends : Bool) (C : Shape) (P : ℕ) (w : List ℕ) (n i : ℕ) (b : Limit) where
-  abbrev pub tested : NodeTest
-  tested = passTest ends C P w (child C w n i) (height C w n - 1) (row C w n i) (nextRow C w n i b)
-
-  pub enters : (first : ℕ) → tested ≡ Sound first → entering ends C P w n i b ≡ goes (child C w n i) (nextRow C w n i b) first
-  unfolding passTest entering
-  enters first e =
-      by-test (passes ends C (height C w n - 1) (nodeAt C w (child C w n i)) (row C w n i) (nextRow C w n i b))
-      (λ t. let q : Sound (outOf C P w (height C w n - 1) (child C w n i)) ≡ Sound first = rw t at e in let z : outOf C P w (height C w n - 1) (child C w n i) ≡ first = cc in rw (t, z))
-      (λ t. let q : Unsound ≡ Sound first = rw t at e in let z : _≡_ {A = ℕ} 0 1 = cc in absurd (omega arith))
-
-  pub stays : tested ≡ Unsound → entering ends C P w n i b ≡ stops (child C w n i)
-  unfolding passTest entering
-  stays e =
-      by-test (passes ends C (height C w n - 1) (nodeAt C w (child C w n i)) (row C w n i) (nextRow C w n i b))
-      (λ t. let q : Sound (outOf C P w (height C w n - 1) (child C w n i)) ≡ Unsound = rw t at e in let z : _≡_ {A = ℕ} 0 1 = cc in absurd (omega arith))
-      (λ t. rw t)
-
 -- what the test of a node says of it
-module _ (ends : Bool) (C : Shape) (P : ℕ) (w : List ℕ) (n h r : ℕ) (b : Limit) where
-  pub pass-sound : (first : ℕ) → passTest ends C P w n h r b ≡ Sound first → (passes ends C h (nodeAt C w n) r b ≡ true) × (first ≡ outOf C P w h n)
-  unfolding passTest
-  pass-sound first e =
-      by-test (passes ends C h (nodeAt C w n) r b)
-      (λ t. let q : Sound (outOf C P w h n) ≡ Sound first = rw t at e in (t, cc))
-      (λ t. let q : Unsound ≡ Sound first = rw t at e in let z : _≡_ {A = ℕ} 0 1 = cc in absurd (omega arith))
+module _ (C : Shape) (P : ℕ) (w : List ℕ) (n h r : ℕ) (b : Limit) where
+  told : (x : NodeTest) → nodeTest C P w n h r b ≡ x → pick (passes false C h (nodeAt C w n) r b) (Sound (outOf C P w h n)) Unsound ≡ x
+  told x e = sym (test-passes C P w n h r b) ∙ e
 
-  pub pass-unsound : passTest ends C P w n h r b ≡ Unsound → passes ends C h (nodeAt C w n) r b ≡ false
-  unfolding passTest
+  pub pass-sound : (first : ℕ) → nodeTest C P w n h r b ≡ Sound first → (passes false C h (nodeAt C w n) r b ≡ true) × (first ≡ outOf C P w h n)
+  pass-sound first e =
+      by-test (passes false C h (nodeAt C w n) r b)
+      (λ t. let q : Sound (outOf C P w h n) ≡ Sound first = rw t at (told (Sound first) e) in (t, cc))
+      (λ t. let q : Unsound ≡ Sound first = rw t at (told (Sound first) e) in let z : _≡_ {A = ℕ} 0 1 = cc in absurd (omega arith))
+
+  pub pass-unsound : nodeTest C P w n h r b ≡ Unsound → passes false C h (nodeAt C w n) r b ≡ false
   pass-unsound e =
-      by-test (passes ends C h (nodeAt C w n) r b)
-      (λ t. let q : Sound (outOf C P w h n) ≡ Unsound = rw t at e in let z : _≡_ {A = ℕ} 0 1 = cc in absurd (omega arith))
+      by-test (passes false C h (nodeAt C w n) r b)
+      (λ t. let q : Sound (outOf C P w h n) ≡ Unsound = rw t at (told Unsound e) in let z : _≡_ {A = ℕ} 0 1 = cc in absurd (omega arith))
       (λ t. t)
+
+-- what the test of child i of branch n says
+module _ (C : Shape) (P : ℕ) (w : List ℕ) (n i : ℕ) (b : Limit) where
+  abbrev pub tested : NodeTest
+  tested = nodeTest C P w (child C w n i) (height C w n - 1) (row C w n i) (nextRow C w n i b)
+
+  pub enters : (first : ℕ) → tested ≡ Sound first → entering C P w n i b ≡ goes (child C w n i) (nextRow C w n i b) first
+  unfolding entering
+  enters first e = let s = pass-sound C P w (child C w n i) (height C w n - 1) (row C w n i) (nextRow C w n i b) first e in rw (s .0, s .1)
+
+  pub stays : tested ≡ Unsound → entering C P w n i b ≡ stops (child C w n i)
+  unfolding entering
+  stays e = rw (pass-unsound C P w (child C w n i) (height C w n - 1) (row C w n i) (nextRow C w n i b) e)

@@ -7,8 +7,6 @@ use Rattle.model.specs.Words.{Shape, pick, part, height, count, row, child}
 use Rattle.model.specs.Tree.{Limit, nodeAt}
 use Rattle.model.specs.Reading.{passes, nextRow}
 use Rattle.node.specs.Test.{limitOf, firstOut}
-use Rattle.node.specs.declared.test.NodeTest.{NodeTest}
-use Rattle.node.specs.declared.test.NodeTest.the-variants.{Unsound, Sound}
 use Rattle.walk.specs.declared.turn.Entered.{Entered}
 use Rattle.walk.specs.declared.turn.Entered.the-variants.{Child, Bad}
 
@@ -20,9 +18,6 @@ hasChild C w n i = ltb 0 (height C w n) && ltb i (count C w n)
 unfoldable pub outOf : Shape → ℕ → List ℕ → ℕ → ℕ → ℕ
 outOf C P w h n = pick (eqb h 0) (count C w n) (firstOut C P w n 0 (count C w n))
 
-unfoldable pub passTest : Bool → Shape → ℕ → List ℕ → ℕ → ℕ → ℕ → Limit → NodeTest
-passTest ends C P w n h r b = pick (passes ends C h (nodeAt C w n) r b) (Sound (outOf C P w h n)) Unsound
-
 pub data Entering : Type 0 where
   goes : ℕ → Limit → ℕ → Entering
   stops : ℕ → Entering
@@ -32,9 +27,9 @@ enteredOf (Child n b first) = goes (n .0) (limitOf b) first
 enteredOf (Bad n) = stops (n .0)
 
 -- child i of branch n, tested
-unfoldable pub entering : Bool → Shape → ℕ → List ℕ → ℕ → ℕ → Limit → Entering
-entering ends C P w n i b =
+unfoldable pub entering : Shape → ℕ → List ℕ → ℕ → ℕ → Limit → Entering
+entering C P w n i b =
     let c = child C w n i in
     let h = height C w n - 1 in
     let next = nextRow C w n i b in
-    pick (passes ends C h (nodeAt C w c) (row C w n i) next) (goes c next (outOf C P w h c)) (stops c)
+    pick (passes false C h (nodeAt C w c) (row C w n i) next) (goes c next (outOf C P w h c)) (stops c)

@@ -1,4 +1,3 @@
 // The walk over a tree in reading order, and the paths to one leaf.
 
-pub mod step;
 pub mod turn;

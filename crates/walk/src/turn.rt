@@ -6,7 +6,7 @@ ghost use Rattle.model.specs.Words.{child, count, height};
 ghost use Rattle.model.specs.Reading.{endFits, nextRow};
 ghost use Rattle.node.specs.Layout.{Fits, shapeOf};
 ghost use Rattle.node.specs.Test.{limitOf};
-ghost use Rattle.walk.specs.Turn.{entering, enteredOf, hasChild, passTest};
+ghost use Rattle.walk.specs.Turn.{entering, enteredOf, hasChild};
 use model::id::NodeNo;
 use model::id::RowID;
 use model::node::RowPageIndexNodeHeader;
@@ -31,43 +31,17 @@ pub fn end_fits(height: u64, next: Limit, end: RowID) -> bool
     }
 }
 
-// The node test; with ends, a branch's end is looked at too.
-pub fn pass(
-    l: Layout,
-    s: &[u64],
-    ends: bool,
-    n: NodeNo,
-    height: u64,
-    row: RowID,
-    next: Limit,
-) -> NodeTest
-    requires { ⌜ Fits l (now s) ⌝ }
-    requires { ⌜ n .0 < l .pool ⌝ }
-    ensures { λ r. ⌜ r ≡ passTest ends (shapeOf l) (l .pool) (now (s .entry)) (n .0) height (row .0) (limitOf next) ⌝ }
-{
-    if !ends {
-        return test::test_node(l, s, n, height, row, next);
-    }
-    let end = l.part(s, n, 3);
-    let fits = end_fits(height, next, RowID(end));
-    if !fits {
-        return NodeTest::Unsound;
-    }
-    test::test_node(l, s, n, height, row, next)
-}
-
 // Whether node n is a branch with an entry i.
 pub fn has_child(l: Layout, s: &[u64], n: NodeNo, i: u64) -> bool
     requires { ⌜ Fits l (now s) ⌝ }
     requires { ⌜ n .0 < l .pool ⌝ }
     ensures { λ r. ⌜ r ≡ hasChild (shapeOf l) (now (s .entry)) (n .0) i ⌝ }
 {
-    let height = l.part(s, n, 0);
-    if height == 0 {
+    let h = l.header(s, n);
+    if h.is_leaf() {
         return false;
     }
-    let count = l.part(s, n, 1);
-    i < count
+    i < h.count
 }
 
 // What is next for entry i of node n.
@@ -76,8 +50,8 @@ pub fn next_row(l: Layout, s: &[u64], n: NodeNo, i: u64, next: Limit) -> Limit
     requires { ⌜ (n .0 < l .pool) × (i < count (shapeOf l) (now s) (n .0)) × (count (shapeOf l) (now s) (n .0) ≤ l .capacity) ⌝ }
     ensures { λ r. ⌜ limitOf r ≡ nextRow (shapeOf l) (now (s .entry)) (n .0) i (limitOf next) ⌝ }
 {
-    let count = l.part(s, n, 1);
-    if i + 1 < count {
+    let h = l.header(s, n);
+    if i + 1 < h.count {
         return Limit::Below(l.row(s, n, i + 1));
     }
     next
@@ -90,16 +64,16 @@ pub enum Entered {
 }
 
 // Child i of branch n, whose number is in range.
-pub fn enter(l: Layout, s: &[u64], ends: bool, n: NodeNo, i: u64, next: Limit) -> Entered
+pub fn enter(l: Layout, s: &[u64], n: NodeNo, i: u64, next: Limit) -> Entered
     requires { ⌜ Fits l (now s) ⌝ }
     requires { ⌜ (n .0 < l .pool) × (0 < height (shapeOf l) (now s) (n .0)) × (i < count (shapeOf l) (now s) (n .0)) × (count (shapeOf l) (now s) (n .0) ≤ l .capacity) × (child (shapeOf l) (now s) (n .0) i < l .pool) ⌝ }
-    ensures { λ r. ⌜ enteredOf r ≡ entering ends (shapeOf l) (l .pool) (now (s .entry)) (n .0) i (limitOf next) ⌝ }
+    ensures { λ r. ⌜ enteredOf r ≡ entering (shapeOf l) (l .pool) (now (s .entry)) (n .0) i (limitOf next) ⌝ }
 {
-    let height = l.part(s, n, 0);
+    let h = l.header(s, n);
     let row = l.row(s, n, i);
     let child = l.child(s, n, i);
     let beyond = next_row(l, s, n, i, next);
-    match pass(l, s, ends, child, height - 1, row, beyond) {
+    match test::test_node(l, s, child, h.height - 1, row, beyond) {
         NodeTest::Sound(first) => Entered::Child(child, beyond, first),
         NodeTest::Unsound => Entered::Bad(child),
     }
