@@ -9,12 +9,12 @@ use Rattle.model.specs.Reading.{rootVisits}
 use Rattle.model.specs.Refusals.{Answer, result}
 use Rattle.model.specs.Refusals as Answers
 use Rattle.node.specs.Layout.{shapeOf, opened}
-use Rattle.node.specs.Test.{nodeTest}
+use Rattle.node_test.specs.Test.{nodeTest}
 use Rattle.node.specs.declared.header.StoreHeader.{StoreHeader}
 use Rattle.node.specs.declared.header.Opened as H
 use Rattle.node.specs.declared.header.Opened.the-variants as O
-use Rattle.node.specs.declared.test.NodeTest.{NodeTest}
-use Rattle.node.specs.declared.test.NodeTest.the-variants.{Unsound, Sound}
+use Rattle.node_test.specs.declared.NodeTest.{NodeTest}
+use Rattle.node_test.specs.declared.NodeTest.the-variants.{Unsound, Sound}
 use Rattle.survey.specs.Tally.{noCounts, tally}
 use Rattle.survey.specs.declared.Survey.{Survey}
 use Rattle.survey.specs.declared.Survey.the-variants as S

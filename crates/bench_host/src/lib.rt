@@ -4,7 +4,7 @@
 ghost use mathlib.Core.Path.{_≡_};
 ghost use Rattle.model.specs.LeafWalk.{seek};
 ghost use Rattle.byvalue.specs.Written.{nextWordsOf};
-ghost use Rattle.node.specs.Test.{limitOf};
+ghost use Rattle.node_test.specs.Test.{limitOf};
 ghost use Rattle.bench_host.specs.Numbers.{endNumber, limitTo, openNumber, surveyOf, testOf};
 use byvalue;
 use model::answer::NextLeaf;
@@ -13,9 +13,9 @@ use model::id::NodeNo;
 use model::id::RowID;
 use node::header;
 use node::header::Opened;
-use node::test;
-use node::test::Limit;
-use node::test::NodeTest;
+use node_test;
+use node_test::Limit;
+use node_test::NodeTest;
 use survey;
 use survey::Survey;
 
@@ -65,7 +65,7 @@ pub extern "C" fn bench_test_node(
                 return REFUSED;
             }
             let beyond = limit(bounded, next);
-            match test::test_node(l, words, NodeNo(node), height, RowID(row), beyond) {
+            match node_test::test_node(l, words, NodeNo(node), height, RowID(row), beyond) {
                 NodeTest::Unsound => UNSOUND,
                 NodeTest::Sound(first) => first,
             }

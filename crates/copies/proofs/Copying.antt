@@ -21,10 +21,10 @@ use Rattle.model.proofs.Sound.{rows, rises, soundly, sound-at}
 use Rattle.model.proofs.Frame.{length-pairs}
 use Rattle.cut.proofs.Rests.{cut-length}
 use Rattle.cut.proofs.Path.{SpotAt, spot}
-use Rattle.pool.specs.Write.{listed}
+use Rattle.node_chain.specs.Chain.{listed}
 use Rattle.model.specs.declared.id.NodeNo.{NodeNo}
 use Rattle.trim.specs.Picks.{AllIn, lostAt, picks}
-use Rattle.pool.proofs.Links.{listed-set}
+use Rattle.node_chain.proofs.Links.{listed-set}
 use Rattle.trim.proofs.Turns.{pick-turn, pick-stop}
 use Rattle.copies.specs.Copied.{goneAt}
 

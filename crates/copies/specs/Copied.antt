@@ -5,7 +5,7 @@ use lib.Dec.{leb}
 use Rattle.model.specs.Words.{pick}
 use Rattle.model.specs.declared.id.NodeNo.{NodeNo}
 use Rattle.model.specs.Prune as Prune
-use Rattle.pool.specs.Write.{listed}
+use Rattle.node_chain.specs.Chain.{listed}
 use Rattle.trim.specs.Picks.{lostAt}
 use Rattle.copies.specs.declared.CopyTest.{CopyTest}
 use Rattle.copies.specs.declared.CopyTest.the-variants.{Unsound, Sound}

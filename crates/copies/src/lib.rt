@@ -14,8 +14,8 @@ ghost use Rattle.copies.specs.Copied.{copiesOf, goneAt};
 use model::id::NodeNo;
 use model::path::Path;
 use node::layout::Layout;
-use node::test;
-use node::test::Limit;
+use node_test;
+use node_test::Limit;
 
 // The first unsound one, or none.
 pub enum CopyTest {
@@ -82,7 +82,7 @@ pub fn find_copies(l: Layout, s: &[u64], root: NodeNo, edge: Path) -> Copies
             };
         }
         let row = l.row(s, n, count - 1);
-        let good = test::is_sound(l, s, child, h - 1, row, Limit::Open);
+        let good = node_test::is_sound(l, s, child, h - 1, row, Limit::Open);
         if !good {
             return Copies {
                 answer: CopyTest::Unsound(child),

@@ -18,11 +18,11 @@ use Rattle.model.specs.declared.answer.NextLeaf.{NextLeaf}
 use Rattle.model.specs.declared.answer.NextLeaf.the-variants.{Refused}
 use Rattle.model.specs.declared.cursor.RowPageIndexMemCursor.{RowPageIndexMemCursor}
 use Rattle.node.specs.Layout.{shapeOf, Fits, opened}
-use Rattle.node.specs.Test.{limitOf}
+use Rattle.node_test.specs.Test.{limitOf}
 use Rattle.node.specs.declared.layout.Layout.{Layout}
 use Rattle.node.specs.declared.header.StoreHeader.{StoreHeader}
 use Rattle.node.specs.declared.header.Opened.the-variants as O
-use Rattle.node.specs.declared.test.Limit.{Limit}
+use Rattle.node_test.specs.declared.Limit.{Limit}
 use Rattle.node.proofs.Opened.{IsOpen, is-refused, goes-on}
 use Rattle.descend.specs.Reached.{reachedOf}
 use Rattle.descend.specs.declared.path.Reached.{Reached as Path}

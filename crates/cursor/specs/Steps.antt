@@ -12,9 +12,9 @@ use Rattle.model.specs.declared.node.PageEntry.{PageEntry}
 use Rattle.model.specs.declared.answer.NextLeaf.{NextLeaf}
 use Rattle.model.specs.declared.answer.NextLeaf.the-variants.{Found}
 use Rattle.model.specs.declared.cursor.RowPageIndexMemCursor.{RowPageIndexMemCursor}
-use Rattle.node.specs.Test.{limitOf}
+use Rattle.node_test.specs.Test.{limitOf}
 use Rattle.node.specs.declared.layout.Layout.{Layout}
-use Rattle.node.specs.declared.test.Limit.{Limit}
+use Rattle.node_test.specs.declared.Limit.{Limit}
 use Rattle.listing.specs.Listing.{noEntries, recordsOf, Readable}
 use Rattle.cursor.specs.declared.LeafStep.{LeafStep}
 

@@ -25,7 +25,7 @@ use model::node::PageEntry;
 use node::header;
 use node::header::Opened;
 use node::layout::Layout;
-use node::test::Limit;
+use node_test::Limit;
 
 // What a step by value gives: the answer, the cursor afterwards, and the entries to give out.
 pub struct LeafStep {

@@ -3,7 +3,7 @@ use Prim.Native.Nat.{ℕ}
 use mathlib.Core.List.{List}
 use Rattle.model.specs.Words.{Shape}
 use Rattle.model.specs.Reading as R
-use Rattle.node.specs.Test.{limitOf}
+use Rattle.node_test.specs.Test.{limitOf}
 use Rattle.descend.specs.declared.path.Toward.{Toward}
 use Rattle.descend.specs.declared.path.Toward.the-variants.{Row, Right}
 use Rattle.descend.specs.declared.path.Reached.{Reached}

@@ -7,15 +7,16 @@ ghost use Rattle.model.specs.Tree.{nodeAt, sound};
 ghost use Rattle.model.specs.Reading.{descend, nextRow, rootLeaf};
 ghost use Rattle.model.specs.Words.{count};
 ghost use Rattle.node.specs.Layout.{Fits, shapeOf};
-ghost use Rattle.node.specs.Test.{limitOf};
+ghost use Rattle.node_test.specs.Test.{limitOf};
 ghost use Rattle.descend.specs.Reached.{chooser, reachedOf};
 use crate::place;
 use model::id::NodeNo;
 use model::id::RowID;
 use node::layout::Layout;
-use node::test;
-use node::test::Limit;
+use node_test;
+use node_test::Limit;
 use walk::turn;
+use node_root;
 
 // Where the path goes in each branch: by the last entry whose row is not above the sought one, or by the last entry.
 pub enum Toward {
@@ -89,7 +90,7 @@ pub fn find_below(
         if l.pool <= n.0 {
             return Reached::Unsound(parent);
         }
-        let good = test::is_sound(l, s, n, h, r, next);
+        let good = node_test::is_sound(l, s, n, h, r, next);
         if !good {
             return Reached::Unsound(n);
         }
@@ -103,7 +104,7 @@ pub fn find_below(
     if l.pool <= n.0 {
         return Reached::Unsound(parent);
     }
-    let good = test::is_sound(l, s, n, 0, r, next);
+    let good = node_test::is_sound(l, s, n, 0, r, next);
     if !good {
         return Reached::Unsound(n);
     }
@@ -116,7 +117,7 @@ pub fn find_leaf(l: Layout, s: &[u64], root: NodeNo, toward: Toward) -> Reached
     requires { ⌜ root .0 < l .pool ⌝ }
     ensures { λ r. ⌜ reachedOf r ≡ rootLeaf (chooser (shapeOf l) (now (s .entry)) toward) (shapeOf l) (l .pool) (now (s .entry)) (root .0) ⌝ }
 {
-    let empty = test::is_empty_root(l, s, root);
+    let empty = node_root::is_empty_root(l, s, root);
     if empty {
         return Reached::Leaf(root, Limit::Open);
     }

@@ -24,14 +24,15 @@ use node::header;
 use node::header::Opened;
 use node::header::StoreHeader;
 use node::layout::Layout;
-use node::test;
-use pool::chain;
+use node_test;
+use node_chain;
 use pool::write;
 use reclaim;
 use survey;
 use survey::Counts;
 use survey::Survey;
 use walk::turn;
+use node_root;
 
 // The page ids of a leaf go into the list from place at on; the place after them. A branch has none.
 fn copy_leaf(l: Layout, s: &[u64], n: NodeNo, pages: &mut [u64], at: usize) -> usize
@@ -178,18 +179,18 @@ fn destroy_empty_root(h: StoreHeader, s: &mut [u64]) -> Destroyed
 {
     let l = h.layout;
     let root = h.root;
-    let good = test::is_sound_root(l, &s[..], root);
+    let good = node_root::is_sound_root(l, &s[..], root);
     if !good {
         return Destroyed::Refused(Refusal::Unsound(root));
     }
-    let empty = test::is_empty_root(l, &s[..], root);
+    let empty = node_root::is_empty_root(l, &s[..], root);
     if !empty {
         return Destroyed::Refused(Refusal::RowBelowPivot(RowID(0)));
     }
     if l.pool < h.free_count + 1 {
         return Destroyed::Refused(Refusal::Unsound(NodeNo(NodeNo::HEADER)));
     }
-    chain::free_node(l, s, root);
+    node_chain::free_node(l, s, root);
     write::set_word(s, 2, l.pool);
     Destroyed::Done { nodes: 1, pages: 0 }
 }

@@ -13,7 +13,7 @@ use Rattle.model.specs.Reading.{Reached, unsound, leaf, rootLeaf, toRow}
 use Rattle.model.specs.Refusals.{Answer, result, refused}
 use Rattle.model.specs.Lookup.{foundIn, findInTree}
 use Rattle.model.proofs.Tests.{holds}
-use Rattle.node.proofs.Rows.{facts, sound-if}
+use Rattle.node_test.proofs.Rows.{facts, sound-if}
 use Rattle.descend.proofs.Down.{Sound, root-sound}
 use Rattle.formed.proofs.Rooted.{empty-of}
 use Rattle.find.specs.Leaf.{IsLeaf}

@@ -22,7 +22,8 @@ use model::id::RowID;
 use node::header;
 use node::header::Opened;
 use node::layout::Layout;
-use node::test;
+use node_test;
+use node_root;
 
 // In a leaf that was reached.
 fn find_in_leaf(l: Layout, s: &[u64], n: NodeNo, row: RowID) -> RowLocation
@@ -50,7 +51,7 @@ fn find_in_tree(l: Layout, s: &[u64], root: NodeNo, row: RowID) -> RowLocation
 {
     let start = l.part(s, root, 2);
     if row.0 < start {
-        let good = test::is_sound_root(l, s, root);
+        let good = node_root::is_sound_root(l, s, root);
         if !good {
             return RowLocation::Refused(Refusal::Unsound(root));
         }

@@ -12,8 +12,8 @@ use Rattle.model.specs.Append.{fresh, topOf, endOver, newPath, hang, raised, sp
 use Rattle.model.specs.declared.id.NodeNo.{NodeNo}
 use Rattle.model.proofs.Words.{put-length, header-at}
 use Rattle.model.proofs.Writes.{put-keeps, copied-keeps}
-use Rattle.pool.specs.Write.{listed}
-use Rattle.pool.proofs.Listed.{length-listed}
+use Rattle.node_chain.specs.Chain.{listed}
+use Rattle.node_chain.proofs.Listed.{length-listed}
 use Rattle.grow.specs.Inside.{Inside, numberAt}
 
 listed-turn : (l : List NodeNo) (i n : ℕ) → i < n → listed l i (n - i) ≡ numberAt l i ∷ listed l (i + 1) (n - (i + 1))

@@ -6,7 +6,7 @@ ghost use Prim.Native.Nat.{_+_, _-_, _≤_, _<_};
 ghost use Rattle.model.specs.Words.{NONE, count, height};
 ghost use Rattle.model.specs.Append.{fresh, hang, newPath, raised, splitRoot};
 ghost use Rattle.node.specs.Layout.{Fits, shapeOf};
-ghost use Rattle.pool.specs.Write.{listed};
+ghost use Rattle.node_chain.specs.Chain.{listed};
 ghost use Rattle.grow.specs.Inside.{Inside, numberAt};
 use model::id::NodeNo;
 use model::id::PageID;
@@ -14,6 +14,8 @@ use model::id::RowID;
 use model::node::RowPageIndexNodeHeader;
 use node::layout::Layout;
 use pool::write;
+use node_pairs;
+use node_copy;
 
 // A page, its first row and the row after its last.
 pub struct NewPage {
@@ -36,7 +38,7 @@ fn fresh_branch(l: Layout, s: &mut [u64], n: NodeNo, height: u64, new: NewPage, 
         end_row_id: RowID(RowPageIndexNodeHeader::NONE),
     };
     write::put_header(l, s, n, header);
-    write::put_child(l, s, n, 0, start, child);
+    node_pairs::put_child(l, s, n, 0, start, child);
 }
 
 // Node n becomes a leaf of one entry.
@@ -54,7 +56,7 @@ fn fresh_leaf(l: Layout, s: &mut [u64], n: NodeNo, new: NewPage)
         end_row_id: end,
     };
     write::put_header(l, s, n, header);
-    write::put_page(l, s, n, 0, start, new.page);
+    node_pairs::put_page(l, s, n, 0, start, new.page);
 }
 
 // A path of one-entry nodes over the page: k of the nodes, from place at on, the top first.
@@ -82,12 +84,12 @@ pub fn hang(l: Layout, s: &mut [u64], n: NodeNo, new: NewPage, nodes: [NodeNo; 3
     ensures { λ _. ⌜ now (s .exit) ≡ hang (shapeOf l) (now (s .entry)) (n .0) (new .start .0) (new .end .0) (new .page .0) (listed nodes 0 k) ⌝ }
 {
     if k == 0 {
-        write::add_page(l, s, n, new.start, new.page);
+        node_pairs::add_page(l, s, n, new.start, new.page);
         write::put(l, s, n, 3, new.end.0);
         return;
     }
     let top = nodes[0];
-    write::add_child(l, s, n, new.start, top);
+    node_pairs::add_child(l, s, n, new.start, top);
     new_path(l, s, new, nodes, 0, k);
 }
 
@@ -101,8 +103,8 @@ fn raise(l: Layout, s: &mut [u64], n: NodeNo, copy: NodeNo, start: RowID, top: N
     write::put(l, s, n, 0, h.height + 1);
     write::put(l, s, n, 1, 2);
     write::put(l, s, n, 3, RowPageIndexNodeHeader::NONE);
-    write::put_child(l, s, n, 0, h.start_row_id, copy);
-    write::put_child(l, s, n, 1, start, top);
+    node_pairs::put_child(l, s, n, 0, h.start_row_id, copy);
+    node_pairs::put_child(l, s, n, 1, start, top);
 }
 
 // The root's copy, which ends where the page begins, and a path of the other nodes become the root's two entries.
@@ -113,7 +115,7 @@ pub fn split_root(l: Layout, s: &mut [u64], n: NodeNo, new: NewPage, nodes: [Nod
 {
     let copy = nodes[0];
     let top = nodes[1];
-    write::copy_node(l, s, n, copy);
+    node_copy::copy_node(l, s, n, copy);
     write::put(l, s, copy, 3, new.start.0);
     raise(l, s, n, copy, new.start, top);
     new_path(l, s, new, nodes, 1, k - 1);

@@ -12,7 +12,7 @@ use Rattle.model.specs.Tree.{Limit, Open, nodeAt, sound, endSound, emptyRoot}
 use Rattle.model.specs.Reading.{unsound, leaf, nextRow, checked, descend, rootLeaf, toRight}
 use Rattle.model.specs.Append.{Room, appendStart, roomFrom, room}
 use Rattle.model.proofs.Tests.{and-l, and-r, by-test, holds}
-use Rattle.node.proofs.Rows.{facts}
+use Rattle.node_test.proofs.Rows.{facts}
 use Rattle.insert.specs.Room.{Edge, Ready, Usable}
 
 never : {A : Type 0} (m l : ℕ) (b : Limit) → unsound m ≡ leaf l b → A

@@ -17,8 +17,8 @@ use Rattle.model.specs.declared.id.NodeNo.{NodeNo}
 use Rattle.model.specs.declared.answer.Refusal.{Refusal}
 use Rattle.model.specs.declared.answer.Refusal.the-variants.{RowLimit, HeightLimit, NoRoom}
 use Rattle.model.proofs.Tests.{and-l, and-r, by-test, holds, is-true}
-use Rattle.pool.specs.Write.{listed}
-use Rattle.pool.proofs.Links.{link}
+use Rattle.node_chain.specs.Chain.{listed}
+use Rattle.node_chain.proofs.Links.{link}
 use Rattle.insert.specs.declared.limits.Ruling.{Ruling}
 use Rattle.insert.specs.declared.limits.Ruling.the-variants.{Fine, Refused}
 use Rattle.grow.specs.Inside.{Inside, numberAt}

@@ -10,7 +10,7 @@ ghost use Rattle.model.specs.Reading.{leaf};
 ghost use Rattle.model.specs.Refusals.{inserted};
 ghost use Rattle.model.specs.Append.{appendTo, hang, insertRowPage, splitRoot};
 ghost use Rattle.node.specs.Layout.{Fits, shapeOf};
-ghost use Rattle.pool.specs.Write.{listed};
+ghost use Rattle.node_chain.specs.Chain.{listed};
 ghost use Rattle.grow.specs.Inside.{Inside, numberAt};
 ghost use Rattle.insert.specs.Room.{Ready, Usable, roomOf};
 ghost use Rattle.insert.specs.Placed.{placed};
@@ -30,7 +30,7 @@ use node::header;
 use node::header::Opened;
 use node::header::StoreHeader;
 use node::layout::Layout;
-use pool::chain;
+use node_chain;
 
 pub mod limits;
 pub mod room;
@@ -60,14 +60,14 @@ fn place_page(s: &mut [u64], h: StoreHeader, new: NewPage, room: Room) -> Insert
     ensures words { λ r. ⌜ now (s .exit) ≡ placed (shapeOf (h .layout)) (h .layout .pool) (now (s .entry)) (h .root .0) (new .start .0) (new .end .0) (new .page .0) (roomOf room) .words ⌝ }
 {
     let l = h.layout;
-    let wanted = chain::read_chain(l, &s[..], h.free_head, room.needed as usize);
+    let wanted = node_chain::read_chain(l, &s[..], h.free_head, room.needed as usize);
     let sound = wanted.sound;
     if !sound {
         return Inserted::Refused(Refusal::Unsound(NodeNo(NodeNo::HEADER)));
     }
     let nodes = wanted.nodes;
     grow_tree(l, s, h.root, room, new, nodes);
-    chain::set_chain(s, wanted.next, h.free_count - room.needed);
+    node_chain::set_chain(s, wanted.next, h.free_count - room.needed);
     let start_row_id = new.start;
     let end_row_id = new.end;
     Inserted::Done(RowPageIndexInsert {

@@ -2,4 +2,3 @@
 
 pub mod header;
 pub mod layout;
-pub mod test;

@@ -1,4 +1,3 @@
 // Writing a store: a word, a header, an entry, a whole node, the free chain.
 
-pub mod chain;
 pub mod write;

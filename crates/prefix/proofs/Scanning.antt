@@ -16,9 +16,9 @@ use Rattle.model.specs.Prune.{Scan, stopped, on, scanLeaf, spoilt, scan, ranOut
 use Rattle.model.specs.Paths.{noPosition, trail, lastOf, above, turned, entered}
 use Rattle.model.specs.declared.path.Position.{Position}
 use Rattle.model.specs.declared.path.Path.{Path}
-use Rattle.node.specs.Test.{limitOf}
-use Rattle.node.specs.declared.test.Limit.{Limit}
-use Rattle.node.specs.declared.test.Limit.the-variants as L
+use Rattle.node_test.specs.Test.{limitOf}
+use Rattle.node_test.specs.declared.Limit.{Limit}
+use Rattle.node_test.specs.declared.Limit.the-variants as L
 use Rattle.walk.specs.Left.{bound, rest, left, Valid, Moves}
 use Rattle.walk.specs.Turn.{hasChild, outOf}
 use Rattle.walk.proofs.Rest.{left-none, child-good}

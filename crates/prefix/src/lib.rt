@@ -22,7 +22,7 @@ use model::id::RowID;
 use model::path::Path;
 use model::path::Position;
 use node::layout::Layout;
-use node::test::Limit;
+use node_test::Limit;
 use walk::turn;
 use walk::turn::Entered;
 
@@ -169,7 +169,7 @@ fn scan_below(
                 };
             }
             let next = nexts[at];
-            match turn::enter(l, s, false, node, index, next) {
+            match turn::enter(l, s, node, index, next) {
                 Entered::Bad(n) => {
                     return Prefix {
                         answer: Named::Refused(Refusal::Unsound(n)),

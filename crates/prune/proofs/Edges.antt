@@ -19,7 +19,7 @@ use Rattle.model.specs.declared.id.NodeNo.{NodeNo}
 use Rattle.model.specs.declared.path.Position.{Position}
 use Rattle.model.specs.declared.path.Path.{Path}
 use Rattle.model.proofs.Sound.{sound-at}
-use Rattle.pool.specs.Write.{listed}
+use Rattle.node_chain.specs.Chain.{listed}
 use Rattle.prefix.specs.Behind.{Above, Behind}
 use Rattle.edge.specs.Edge.{firstPairs, edgeTrims, edgeGone, Edged}
 use Rattle.edge.proofs.Climbs.{edge-stays, edge-whole}

@@ -10,8 +10,8 @@ use Rattle.model.specs.Words.{Shape, pick, freeCount, freeAll, emptied}
 use Rattle.model.specs.Refusals.{result, refused, damaged, Outcome}
 use Rattle.model.specs.Prune.{Copies, unsound, copies, trimAll, copyAll}
 use Rattle.model.specs.declared.id.NodeNo.{NodeNo}
-use Rattle.pool.specs.Write.{listed}
-use Rattle.pool.proofs.Listed.{length-listed}
+use Rattle.node_chain.specs.Chain.{listed}
+use Rattle.node_chain.proofs.Listed.{length-listed}
 use Rattle.prune.specs.Found.{resetTo, cutTo}
 
 module _ (C : Shape) (P : ℕ) (w : List ℕ) (n e k : ℕ) (G : List ℕ) where

@@ -7,7 +7,7 @@ use Rattle.model.specs.Words.{Shape, freeCount}
 use Rattle.model.specs.Reading.{occ}
 use Rattle.model.specs.declared.id.NodeNo.{NodeNo}
 use Rattle.model.specs.declared.path.Path.{Path}
-use Rattle.pool.specs.Write.{listed}
+use Rattle.node_chain.specs.Chain.{listed}
 use Rattle.trim.specs.Picks.{Ahead, Trims, AllIn}
 use Rattle.reap.specs.Spine.{Reaping}
 use Rattle.reap.specs.Spine.{Outside, Untouched}

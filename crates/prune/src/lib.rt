@@ -25,14 +25,15 @@ use model::path::Path;
 use node::header;
 use node::header::Opened;
 use node::header::StoreHeader;
-use node::test;
-use node::test::Limit;
-use node::test::NodeTest;
+use node_test;
+use node_test::Limit;
+use node_test::NodeTest;
 use prefix;
 use prefix::Named;
 use prefix::Prefix;
 use reap;
 use walk::turn;
+use node_root;
 
 pub mod write;
 
@@ -145,10 +146,7 @@ fn prune_filled(h: StoreHeader, s: &mut [u64], start: RowID, end: RowID, ids: &[
     if !head.is_in_height() {
         return Pruned::Refused(Refusal::Unsound(root));
     }
-    match turn::pass(
-        l,
-        &s[..],
-        false,
+    match node_test::test_node(l, &s[..],
         root,
         head.height,
         head.start_row_id,
@@ -173,7 +171,7 @@ fn prune_open(h: StoreHeader, s: &mut [u64], start: RowID, end: RowID, ids: &[u6
     ensures answer { λ r. ⌜ pruned r ≡ pruneAt (shapeOf (h .layout)) (h .layout .pool) (now (s .entry)) (h .root .0) (start .0) (end .0) (now (ids .entry)) .answer ⌝ }
     ensures words { λ r. ⌜ now (s .exit) ≡ pruneAt (shapeOf (h .layout)) (h .layout .pool) (now (s .entry)) (h .root .0) (start .0) (end .0) (now (ids .entry)) .words ⌝ }
 {
-    let empty = test::is_empty_root(h.layout, &s[..], h.root);
+    let empty = node_root::is_empty_root(h.layout, &s[..], h.root);
     if !empty {
         return prune_filled(h, s, start, end, ids);
     }

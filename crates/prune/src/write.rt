@@ -5,7 +5,7 @@ ghost use mathlib.Core.List.{_++_, reverse};
 ghost use Prim.Native.Nat.{_+_, _-_, _≤_, _<_};
 ghost use Rattle.model.specs.Words.{emptied, freeAll};
 ghost use Rattle.model.specs.Prune.{copyAll, trimAll};
-ghost use Rattle.pool.specs.Write.{listed};
+ghost use Rattle.node_chain.specs.Chain.{listed};
 ghost use Rattle.prune.specs.Found.{leftOf, trimsOf};
 ghost use Rattle.prune.specs.Writable.{Resettable, Writable};
 ghost use Rattle.node.specs.Layout.{shapeOf};

@@ -11,7 +11,7 @@ use model::id::NodeNo;
 use model::path::Path;
 use model::path::Position;
 use node::layout::Layout;
-use pool::chain;
+use node_chain;
 use walk::turn;
 
 // Frees the first k nodes, in postorder, of the tree from root.
@@ -49,7 +49,7 @@ pub fn free_first(l: Layout, s: &mut [u64], root: NodeNo, k: u64)
             };
             path.depth = depth + 1;
         } else {
-            chain::free_node(l, s, node);
+            node_chain::free_node(l, s, node);
             freed += 1;
             path.depth = at;
         }

@@ -13,9 +13,9 @@ use Rattle.model.specs.Reading.{Visit, Enter, Leave, Bad, nextRow}
 use Rattle.model.specs.Paths.{noPosition, stack, trail, lastOf, above, turned, entered}
 use Rattle.model.specs.declared.path.Position.{Position}
 use Rattle.model.specs.declared.path.Path.{Path}
-use Rattle.node.specs.Test.{limitOf}
-use Rattle.node.specs.declared.test.Limit.{Limit}
-use Rattle.node.specs.declared.test.Limit.the-variants.{Open, Below}
+use Rattle.node_test.specs.Test.{limitOf}
+use Rattle.node_test.specs.declared.Limit.{Limit}
+use Rattle.node_test.specs.declared.Limit.the-variants.{Open, Below}
 use Rattle.walk.specs.Left.{bound, left, Valid, ValidPath, Moves}
 use Rattle.walk.specs.Turn.{hasChild, outOf}
 use Rattle.walk.proofs.Valid.{Top, valid-top, valid-path}

@@ -7,9 +7,9 @@ use native.Mathlib.Omega.{arith}
 use lib.ListN.{getD, set, length}
 use Rattle.model.specs.Words.{Shape}
 use Rattle.model.specs.declared.path.Path.{Path}
-use Rattle.node.specs.Test.{limitOf}
-use Rattle.node.specs.declared.test.Limit.{Limit}
-use Rattle.node.specs.declared.test.Limit.the-variants.{Open, Below}
+use Rattle.node_test.specs.Test.{limitOf}
+use Rattle.node_test.specs.declared.Limit.{Limit}
+use Rattle.node_test.specs.declared.Limit.the-variants.{Open, Below}
 use Rattle.walk.proofs.Valid.{Top, valid-top}
 use Rattle.survey.specs.Limits.{limit, bounded, rowOf, limits}
 use Rattle.survey.specs.declared.Counts.{Counts}

@@ -14,9 +14,9 @@ use Rattle.model.specs.Reading.{endFits, passes, rootVisits, nextRow}
 use Rattle.model.specs.Paths.{lastOf, entered}
 use Rattle.model.specs.declared.path.Path.{Path}
 use Rattle.model.proofs.Tests.{by-test}
-use Rattle.node.specs.Test.{limitOf}
-use Rattle.node.specs.declared.test.Limit.{Limit}
-use Rattle.node.specs.declared.test.Limit.the-variants as Limits
+use Rattle.node_test.specs.Test.{limitOf}
+use Rattle.node_test.specs.declared.Limit.{Limit}
+use Rattle.node_test.specs.declared.Limit.the-variants as Limits
 use Rattle.walk.specs.Left.{left, rest, Valid}
 use Rattle.walk.specs.Turn.{hasChild, outOf}
 use Rattle.walk.proofs.Branch.{Went, Barred}

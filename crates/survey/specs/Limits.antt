@@ -2,8 +2,8 @@
 use Prim.Native.Nat.{ℕ}
 use mathlib.Core.Bool.{Bool, true, false}
 use mathlib.Core.List.{List, [], _∷_}
-use Rattle.node.specs.declared.test.Limit.{Limit}
-use Rattle.node.specs.declared.test.Limit.the-variants.{Open, Below}
+use Rattle.node_test.specs.declared.Limit.{Limit}
+use Rattle.node_test.specs.declared.Limit.the-variants.{Open, Below}
 
 unfoldable pub limit : Bool → ℕ → Limit
 limit true r = Below (record { 0 = r })

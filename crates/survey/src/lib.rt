@@ -9,7 +9,7 @@ ghost use Rattle.model.specs.Words.{count, height};
 ghost use Rattle.model.specs.Reading.{rootVisits};
 ghost use Rattle.model.specs.Paths.{entered};
 ghost use Rattle.node.specs.Layout.{Fits, shapeOf};
-ghost use Rattle.node.specs.Test.{limitOf};
+ghost use Rattle.node_test.specs.Test.{limitOf};
 ghost use Rattle.walk.specs.Left.{Valid, rest};
 ghost use Rattle.walk.specs.Turn.{outOf};
 ghost use Rattle.survey.specs.Tally.{counted, more, noCounts, tally};
@@ -20,11 +20,12 @@ use model::id::RowID;
 use model::path::Path;
 use model::path::Position;
 use node::layout::Layout;
-use node::test;
-use node::test::Limit;
-use node::test::NodeTest;
+use node_test;
+use node_test::Limit;
+use node_test::NodeTest;
 use walk::turn;
 use walk::turn::Entered;
+use node_root;
 
 // What a reading has counted. A sound tree has at most 65,535 nodes, so the counts of one never reach Counts::MOST.
 pub struct Counts {
@@ -184,7 +185,7 @@ fn survey_below(
                 return both(l, Survey::Unsound(node), wrong);
             }
             let next = limit(bounded[at], rows[at]);
-            match turn::enter(l, s, false, node, index, next) {
+            match turn::enter(l, s, node, index, next) {
                 Entered::Bad(n) => {
                     return both(l, Survey::Unsound(n), wrong);
                 }
@@ -223,7 +224,7 @@ pub fn survey_both(l: Layout, s: &[u64], root: NodeNo) -> Surveys
         leaves: 0,
         entries: 0,
     };
-    let empty = test::is_empty_root(l, s, root);
+    let empty = node_root::is_empty_root(l, s, root);
     if empty {
         let counts = count_node(l, s, root, zero);
         return both(l, Survey::Counted(counts), none);
@@ -232,7 +233,7 @@ pub fn survey_both(l: Layout, s: &[u64], root: NodeNo) -> Surveys
     if !h.is_in_height() {
         return both(l, Survey::Unsound(root), none);
     }
-    match turn::pass(l, s, false, root, h.height, h.start_row_id, Limit::Open) {
+    match node_test::test_node(l, s, root, h.height, h.start_row_id, Limit::Open) {
         NodeTest::Unsound => both(l, Survey::Unsound(root), none),
         NodeTest::Sound(first) => {
             let counts = count_node(l, s, root, zero);

@@ -15,7 +15,7 @@ use Rattle.model.specs.declared.path.Position.{Position}
 use Rattle.model.proofs.Words.{header-at}
 use Rattle.model.proofs.Writes.{copied-length, freed-length, freed-count}
 use Rattle.cut.proofs.Trim.{trimmed-header, trimmed-node}
-use Rattle.pool.specs.Write.{listed}
+use Rattle.node_chain.specs.Chain.{listed}
 use Rattle.trim.specs.Picks.{lostAt, picks, Apart, Trims}
 
 module _ {A : Type 0} (f : ℕ → A) (i n : ℕ) where

@@ -7,14 +7,15 @@ ghost use lib.ListN.{length};
 ghost use Rattle.model.specs.Words.{count, freeAll, freeCount};
 ghost use Rattle.model.specs.Prune.{copyAll, trimAll, trimmed};
 ghost use Rattle.node.specs.Layout.{Fits, shapeOf};
-ghost use Rattle.pool.specs.Write.{listed};
+ghost use Rattle.node_chain.specs.Chain.{listed};
 ghost use Rattle.trim.specs.Picks.{AllIn, Ahead, Trims, lostAt, picks};
 use model::id::NodeNo;
 use model::id::RowID;
 use model::path::Path;
 use node::layout::Layout;
-use pool::chain;
+use node_chain;
 use pool::write;
+use node_copy;
 
 // Node n loses its first k entries; what is left starts at the end.
 fn trim_node(l: Layout, s: &mut [u64], n: NodeNo, k: u64, end: RowID)
@@ -24,7 +25,7 @@ fn trim_node(l: Layout, s: &mut [u64], n: NodeNo, k: u64, end: RowID)
 {
     let count = l.part(&s[..], n, 1);
     let left = count - k;
-    write::move_front(l, s, n, k, left);
+    node_copy::move_front(l, s, n, k, left);
     write::put(l, s, n, 1, left);
     write::put(l, s, n, 2, end.0);
     write::put(l, s, n, l.row_place(0), end.0);
@@ -68,7 +69,7 @@ pub fn copy_all(l: Layout, s: &mut [u64], root: NodeNo, nodes: [NodeNo; 32], k: 
     let mut i: usize = 0;
     while i < k {
         let n = nodes[i];
-        write::copy_node(l, s, n, root);
+        node_copy::copy_node(l, s, n, root);
         i += 1;
     }
 }
@@ -83,6 +84,6 @@ pub fn free_copied(l: Layout, s: &mut [u64], nodes: [NodeNo; 32], k: usize)
     while 0 < i {
         i -= 1;
         let n = nodes[i];
-        chain::free_node(l, s, n);
+        node_chain::free_node(l, s, n);
     }
 }

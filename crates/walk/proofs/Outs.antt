@@ -9,7 +9,7 @@ use lib.Dec.{ltb, eqb}
 use borrow.Author.Tests.{ltb-true, ltb-false, ne-eqb}
 use Rattle.model.specs.Words.{Shape, pick, part, height, count, child}
 use Rattle.model.proofs.Tests.{by-test}
-use Rattle.node.specs.Test.{firstOut}
+use Rattle.node_test.specs.Test.{firstOut}
 use Rattle.walk.specs.Turn.{outOf}
 
 module _ (C : Shape) (P : ℕ) (w : List ℕ) (n : ℕ) where

@@ -10,9 +10,9 @@ use Rattle.model.specs.Words.{Shape, pick, part, height, count, end, row, child
 use Rattle.model.specs.Tree.{Limit, Open, Below, nodeAt, sound}
 use Rattle.model.specs.Reading.{endFits, passes, nextRow}
 use Rattle.model.proofs.Tests.{by-test}
-use Rattle.node.specs.Test.{firstOut, nodeTest}
-use Rattle.node.specs.declared.test.NodeTest.{NodeTest}
-use Rattle.node.specs.declared.test.NodeTest.the-variants.{Unsound, Sound}
+use Rattle.node_test.specs.Test.{firstOut, nodeTest}
+use Rattle.node_test.specs.declared.NodeTest.{NodeTest}
+use Rattle.node_test.specs.declared.NodeTest.the-variants.{Unsound, Sound}
 use Rattle.walk.specs.Turn.{hasChild, outOf, Entering, goes, stops, entering}
 
 pub ends-leaf : (h : ℕ) (b : Limit) (e : ℕ) → h ≡ 0 → endFits h b e ≡ true

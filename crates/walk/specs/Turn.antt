@@ -6,7 +6,7 @@ use lib.Dec.{ltb, eqb}
 use Rattle.model.specs.Words.{Shape, pick, part, height, count, row, child}
 use Rattle.model.specs.Tree.{Limit, nodeAt}
 use Rattle.model.specs.Reading.{passes, nextRow}
-use Rattle.node.specs.Test.{limitOf, firstOut}
+use Rattle.node_test.specs.Test.{limitOf, firstOut}
 use Rattle.walk.specs.declared.turn.Entered.{Entered}
 use Rattle.walk.specs.declared.turn.Entered.the-variants.{Child, Bad}
 

@@ -5,15 +5,15 @@ ghost use Prim.Native.Nat.{_+_, _-_, _≤_, _<_};
 ghost use Rattle.model.specs.Words.{child, count, height};
 ghost use Rattle.model.specs.Reading.{endFits, nextRow};
 ghost use Rattle.node.specs.Layout.{Fits, shapeOf};
-ghost use Rattle.node.specs.Test.{limitOf};
+ghost use Rattle.node_test.specs.Test.{limitOf};
 ghost use Rattle.walk.specs.Turn.{entering, enteredOf, hasChild};
 use model::id::NodeNo;
 use model::id::RowID;
 use model::node::RowPageIndexNodeHeader;
 use node::layout::Layout;
-use node::test;
-use node::test::Limit;
-use node::test::NodeTest;
+use node_test;
+use node_test::Limit;
+use node_test::NodeTest;
 
 // Whether a branch may end so: at NONE, or off the right edge where the next entry begins.
 pub fn end_fits(height: u64, next: Limit, end: RowID) -> bool
@@ -73,7 +73,7 @@ pub fn enter(l: Layout, s: &[u64], n: NodeNo, i: u64, next: Limit) -> Entered
     let row = l.row(s, n, i);
     let child = l.child(s, n, i);
     let beyond = next_row(l, s, n, i, next);
-    match test::test_node(l, s, child, h.height - 1, row, beyond) {
+    match node_test::test_node(l, s, child, h.height - 1, row, beyond) {
         NodeTest::Sound(first) => Entered::Child(child, beyond, first),
         NodeTest::Unsound => Entered::Bad(child),
     }

@@ -4,7 +4,7 @@ use mathlib.Core.Path.{_≡_, sym, _∙_}
 use native.Mathlib.Omega.{arith}
 use Rattle.model.specs.Append.{newPath}
 use Rattle.node.specs.Layout.{shapeOf, Fits}
-use Rattle.pool.specs.Write.{listed}
+use Rattle.node_chain.specs.Chain.{listed}
 use Rattle.grow.proofs.NewPaths.{inside-at, path-turn, path-start, path-close}
 use Rattle.grow.proofs.new_path.Statement.{statement}
 use Rattle.grow.proofs.new_path.Tie as tie

@@ -12,7 +12,7 @@ use Rattle.model.specs.Reading.{Visit}
 use Rattle.model.specs.Refusals.{refusal}
 use Rattle.model.specs.Prune.{on, scan, ranOut}
 use Rattle.model.specs.Paths.{noPosition, stack, trail, lastOf, above, entered}
-use Rattle.node.specs.Test.{limitOf}
+use Rattle.node_test.specs.Test.{limitOf}
 use Rattle.walk.specs.Left.{left}
 use Rattle.walk.specs.Turn.{hasChild, enteredOf}
 use Rattle.walk.proofs.Valid.{valid-top}
@@ -123,7 +123,7 @@ unfolding Ending
 returns-3 c =
     let a = c .before .before .before .before .before .before .before .before .before .before .before .before .before .before .before .args in
     let has : hasChild (shapeOf (a .l)) (a .s .now) (lastOf (c .before .before .before .before .before .before .before .before .before .before .before .before .loop .path) .node .0) (lastOf (c .before .before .before .before .before .before .before .before .before .before .before .before .loop .path) .index) ≡ true = sym (c .before .before .before .before .before .before .before .has-child .ensures) ∙ not-false _ (c .before .before .before .before .before .before .if2 .left) in
-    let bd = barred false (shapeOf (a .l)) (a .l .pool) (a .s .now) (lastOf (c .before .before .before .before .before .before .before .before .before .before .before .before .loop .path) .node .0) (lastOf (c .before .before .before .before .before .before .before .before .before .before .before .before .loop .path) .index) _ _ (sym (ap enteredOf (c .before .n .given .1)) ∙ c .before .before .before .enter .ensures) in
+    let bd = barred (shapeOf (a .l)) (a .l .pool) (a .s .now) (lastOf (c .before .before .before .before .before .before .before .before .before .before .before .before .loop .path) .node .0) (lastOf (c .before .before .before .before .before .before .before .before .before .before .before .before .loop .path) .index) _ _ (sym (ap enteredOf (c .before .n .given .1)) ∙ c .before .before .before .enter .ensures) in
     (scanning-bad (shapeOf (a .l)) (a .l .pool) (a .s .now) (a .end .0) (a .root .0) (a .ids .now) _ (c .before .before .before .before .before .before .before .before .before .before .before .before .loop .path) (c .before .before .before .before .before .before .before .before .before .before .before .before .loop .nexts) (c .before .before .before .before .before .before .before .before .before .before .before .before .loop .firsts) (c .before .before .before .before .before .before .before .before .before .before .before .before .loop .named) (c .before .before .before .before .before .before .before .before .before .before .before .before .loop .to .0) (c .before .before .before .before .before .before .before .before .before .before .before .before .loop .last) (c .before .before .before .before .before .before .before .before .before .before .before .before .loop .inv) (c .before .before .before .before .before .before .before .before .before .before .before .loop-test .taken) has (c .before .before .before .before .before .if3 .left) (c .before .before .before .before .before .before .before .before .before .before .if1 .left) _ bd ∙ ap (λ (vs : List Visit). ranOut (a .end .0) (scan (shapeOf (a .l)) (a .s .now) (a .end .0) vs (on (drop (a .place) (a .ids .now)) (a .place) (a .reached .0)))) (rooted-left false (shapeOf (a .l)) (a .l .pool) (a .s .now) (a .root .0) (c .before .before .before .before .before .before .before .before .before .before .before .before .before .before .before .pre .1 .0)), tt)
 
 enum-known-child : tie.Need-enum-known-child Inv-loop μ-loop
@@ -203,7 +203,7 @@ scan-node-requires : tie.Need-scan-node-requires Inv-loop μ-loop
 scan-node-requires c κs =
     let a = c .before .before .before .before .before .before .before .before .before .before .before .before .before .before .before .args in
     let has : hasChild (shapeOf (a .l)) (a .s .now) (lastOf (c .before .before .before .before .before .before .before .before .before .before .before .before .loop .path) .node .0) (lastOf (c .before .before .before .before .before .before .before .before .before .before .before .before .loop .path) .index) ≡ true = sym (c .before .before .before .before .before .before .before .has-child .ensures) ∙ not-false _ (c .before .before .before .before .before .before .if2 .left) in
-    let wt = went false (shapeOf (a .l)) (a .l .pool) (a .s .now) (lastOf (c .before .before .before .before .before .before .before .before .before .before .before .before .loop .path) .node .0) (lastOf (c .before .before .before .before .before .before .before .before .before .before .before .before .loop .path) .index) _ _ _ _ (sym (ap enteredOf (c .before .child .given .1)) ∙ c .before .before .before .enter .ensures) in
+    let wt = went (shapeOf (a .l)) (a .l .pool) (a .s .now) (lastOf (c .before .before .before .before .before .before .before .before .before .before .before .before .loop .path) .node .0) (lastOf (c .before .before .before .before .before .before .before .before .before .before .before .before .loop .path) .index) _ _ _ _ (sym (ap enteredOf (c .before .child .given .1)) ∙ c .before .before .before .enter .ensures) in
     (c .before .before .before .before .before .before .before .before .before .before .before .before .before .before .before .pre .0, narrow (shapeOf (a .l)) (a .l .pool) (a .s .now) false _ (c .before .before .before .before .before .before .before .before .before .before .before .before .loop .path) (c .before .before .before .before .before .before .before .before .before .before .before .before .loop .nexts) (c .before .before .before .before .before .before .before .before .before .before .before .before .loop .firsts) _ (c .before .before .before .before .before .before .before .before .before .before .before .before .loop .inv .going) (c .before .before .before .before .before .before .before .before .before .before .before .loop-test .taken) has (c .before .before .before .before .before .if3 .left) _ (c .before .child .given .0 .1 .0) _ wt)
 
 enum-known-r : tie.Need-enum-known-r Inv-loop μ-loop
@@ -214,7 +214,7 @@ unfolding Ending
 returns-4 c =
     let a = c .before .before .before .before .before .before .before .before .before .before .before .before .before .before .before .before .before .before .before .args in
     let has : hasChild (shapeOf (a .l)) (a .s .now) (lastOf (c .before .before .before .before .before .before .before .before .before .before .before .before .before .before .before .before .loop .path) .node .0) (lastOf (c .before .before .before .before .before .before .before .before .before .before .before .before .before .before .before .before .loop .path) .index) ≡ true = sym (c .before .before .before .before .before .before .before .before .before .before .before .has-child .ensures) ∙ not-false _ (c .before .before .before .before .before .before .before .before .before .before .if2 .left) in
-    let wt = went false (shapeOf (a .l)) (a .l .pool) (a .s .now) (lastOf (c .before .before .before .before .before .before .before .before .before .before .before .before .before .before .before .before .loop .path) .node .0) (lastOf (c .before .before .before .before .before .before .before .before .before .before .before .before .before .before .before .before .loop .path) .index) _ _ _ _ (sym (ap enteredOf (c .before .before .before .before .before .child .given .1)) ∙ c .before .before .before .before .before .before .before .enter .ensures) in
+    let wt = went (shapeOf (a .l)) (a .l .pool) (a .s .now) (lastOf (c .before .before .before .before .before .before .before .before .before .before .before .before .before .before .before .before .loop .path) .node .0) (lastOf (c .before .before .before .before .before .before .before .before .before .before .before .before .before .before .before .before .loop .path) .index) _ _ _ _ (sym (ap enteredOf (c .before .before .before .before .before .child .given .1)) ∙ c .before .before .before .before .before .before .before .enter .ensures) in
     (scanning-stop (shapeOf (a .l)) (a .l .pool) (a .s .now) (a .end .0) (a .root .0) (a .ids .now) _ (c .before .before .before .before .before .before .before .before .before .before .before .before .before .before .before .before .loop .path) (c .before .before .before .before .before .before .before .before .before .before .before .before .before .before .before .before .loop .nexts) (c .before .before .before .before .before .before .before .before .before .before .before .before .before .before .before .before .loop .firsts) (c .before .before .before .before .before .before .before .before .before .before .before .before .before .before .before .before .loop .named) (c .before .before .before .before .before .before .before .before .before .before .before .before .before .before .before .before .loop .to .0) (c .before .before .before .before .before .before .before .before .before .before .before .before .before .before .before .before .loop .last) (c .before .before .before .before .before .before .before .before .before .before .before .before .before .before .before .before .loop .inv) (c .before .before .before .before .before .before .before .before .before .before .before .before .before .before .before .loop-test .taken) has (c .before .before .before .before .before .before .before .before .before .if3 .left) _ (c .before .before .before .before .before .child .given .0 .1 .0) _ wt (refusal (c .before .r .given .0 .0)) (sym (ap (progressOf (a .ids .now)) (c .before .r .given .1)) ∙ c .before .before .before .scan-node .ensures) ∙ ap (λ (vs : List Visit). ranOut (a .end .0) (scan (shapeOf (a .l)) (a .s .now) (a .end .0) vs (on (drop (a .place) (a .ids .now)) (a .place) (a .reached .0)))) (rooted-left false (shapeOf (a .l)) (a .l .pool) (a .s .now) (a .root .0) (c .before .before .before .before .before .before .before .before .before .before .before .before .before .before .before .before .before .before .before .pre .1 .0)), tt)
 
 enum-known-p : tie.Need-enum-known-p Inv-loop μ-loop
@@ -224,21 +224,21 @@ sub-last : tie.Need-sub-last Inv-loop μ-loop
 sub-last c =
     let a = c .before .before .before .before .before .before .before .before .before .before .before .before .before .before .before .before .before .before .before .args in
     let has : hasChild (shapeOf (a .l)) (a .s .now) (lastOf (c .before .before .before .before .before .before .before .before .before .before .before .before .before .before .before .before .loop .path) .node .0) (lastOf (c .before .before .before .before .before .before .before .before .before .before .before .before .before .before .before .before .loop .path) .index) ≡ true = sym (c .before .before .before .before .before .before .before .before .before .before .before .has-child .ensures) ∙ not-false _ (c .before .before .before .before .before .before .before .before .before .before .if2 .left) in
-    let wt = went false (shapeOf (a .l)) (a .l .pool) (a .s .now) (lastOf (c .before .before .before .before .before .before .before .before .before .before .before .before .before .before .before .before .loop .path) .node .0) (lastOf (c .before .before .before .before .before .before .before .before .before .before .before .before .before .before .before .before .loop .path) .index) _ _ _ _ (sym (ap enteredOf (c .before .before .before .before .before .child .given .1)) ∙ c .before .before .before .before .before .before .before .enter .ensures) in
+    let wt = went (shapeOf (a .l)) (a .l .pool) (a .s .now) (lastOf (c .before .before .before .before .before .before .before .before .before .before .before .before .before .before .before .before .loop .path) .node .0) (lastOf (c .before .before .before .before .before .before .before .before .before .before .before .before .before .before .before .before .loop .path) .index) _ _ _ _ (sym (ap enteredOf (c .before .before .before .before .before .child .given .1)) ∙ c .before .before .before .before .before .before .before .enter .ensures) in
     scanning-on (shapeOf (a .l)) (a .l .pool) (a .s .now) (a .end .0) (a .root .0) (a .ids .now) _ (c .before .before .before .before .before .before .before .before .before .before .before .before .before .before .before .before .loop .path) (c .before .before .before .before .before .before .before .before .before .before .before .before .before .before .before .before .loop .nexts) (c .before .before .before .before .before .before .before .before .before .before .before .before .before .before .before .before .loop .firsts) (c .before .before .before .before .before .before .before .before .before .before .before .before .before .before .before .before .loop .named) (c .before .before .before .before .before .before .before .before .before .before .before .before .before .before .before .before .loop .to .0) (c .before .before .before .before .before .before .before .before .before .before .before .before .before .before .before .before .loop .last) (c .before .before .before .before .before .before .before .before .before .before .before .before .before .before .before .before .loop .inv) (c .before .before .before .before .before .before .before .before .before .before .before .before .before .before .before .loop-test .taken) has (c .before .before .before .before .before .before .before .before .before .if3 .left) _ (c .before .before .before .before .before .child .given .0 .1 .0) _ wt _ _ (sym (ap (progressOf (a .ids .now)) (c .before .p .given .1)) ∙ c .before .before .before .scan-node .ensures)
 
 loop-less-2 : tie.Need-loop-less-2 Inv-loop μ-loop
 loop-less-2 c =
     let a = c .before .before .before .before .before .before .before .before .before .before .before .before .before .before .before .before .before .before .before .args in
     let has : hasChild (shapeOf (a .l)) (a .s .now) (lastOf (c .before .before .before .before .before .before .before .before .before .before .before .before .before .before .before .before .loop .path) .node .0) (lastOf (c .before .before .before .before .before .before .before .before .before .before .before .before .before .before .before .before .loop .path) .index) ≡ true = sym (c .before .before .before .before .before .before .before .before .before .before .before .has-child .ensures) ∙ not-false _ (c .before .before .before .before .before .before .before .before .before .before .if2 .left) in
-    let wt = went false (shapeOf (a .l)) (a .l .pool) (a .s .now) (lastOf (c .before .before .before .before .before .before .before .before .before .before .before .before .before .before .before .before .loop .path) .node .0) (lastOf (c .before .before .before .before .before .before .before .before .before .before .before .before .before .before .before .before .loop .path) .index) _ _ _ _ (sym (ap enteredOf (c .before .before .before .before .before .child .given .1)) ∙ c .before .before .before .before .before .before .before .enter .ensures) in
+    let wt = went (shapeOf (a .l)) (a .l .pool) (a .s .now) (lastOf (c .before .before .before .before .before .before .before .before .before .before .before .before .before .before .before .before .loop .path) .node .0) (lastOf (c .before .before .before .before .before .before .before .before .before .before .before .before .before .before .before .before .loop .path) .index) _ _ _ _ (sym (ap enteredOf (c .before .before .before .before .before .child .given .1)) ∙ c .before .before .before .before .before .before .before .enter .ensures) in
     less-in (shapeOf (a .l)) (a .l .pool) (a .s .now) false _ (c .before .before .before .before .before .before .before .before .before .before .before .before .before .before .before .before .loop .path) (c .before .before .before .before .before .before .before .before .before .before .before .before .before .before .before .before .loop .nexts) (c .before .before .before .before .before .before .before .before .before .before .before .before .before .before .before .before .loop .firsts) _ (c .before .before .before .before .before .before .before .before .before .before .before .before .before .before .before .before .loop .inv .going) (c .before .before .before .before .before .before .before .before .before .before .before .before .before .before .before .loop-test .taken) has (c .before .before .before .before .before .before .before .before .before .if3 .left) _ (c .before .before .before .before .before .child .given .0 .1 .0) _ wt
 
 loop-again-2 : tie.Need-loop-again-2 Inv-loop μ-loop
 loop-again-2 c =
     let a = c .before .before .before .before .before .before .before .before .before .before .before .before .before .before .before .before .before .before .before .args in
     let has : hasChild (shapeOf (a .l)) (a .s .now) (lastOf (c .before .before .before .before .before .before .before .before .before .before .before .before .before .before .before .before .loop .path) .node .0) (lastOf (c .before .before .before .before .before .before .before .before .before .before .before .before .before .before .before .before .loop .path) .index) ≡ true = sym (c .before .before .before .before .before .before .before .before .before .before .before .has-child .ensures) ∙ not-false _ (c .before .before .before .before .before .before .before .before .before .before .if2 .left) in
-    let wt = went false (shapeOf (a .l)) (a .l .pool) (a .s .now) (lastOf (c .before .before .before .before .before .before .before .before .before .before .before .before .before .before .before .before .loop .path) .node .0) (lastOf (c .before .before .before .before .before .before .before .before .before .before .before .before .before .before .before .before .loop .path) .index) _ _ _ _ (sym (ap enteredOf (c .before .before .before .before .before .child .given .1)) ∙ c .before .before .before .before .before .before .before .enter .ensures) in
+    let wt = went (shapeOf (a .l)) (a .l .pool) (a .s .now) (lastOf (c .before .before .before .before .before .before .before .before .before .before .before .before .before .before .before .before .loop .path) .node .0) (lastOf (c .before .before .before .before .before .before .before .before .before .before .before .before .before .before .before .before .loop .path) .index) _ _ _ _ (sym (ap enteredOf (c .before .before .before .before .before .child .given .1)) ∙ c .before .before .before .before .before .before .before .enter .ensures) in
     scanning-in (shapeOf (a .l)) (a .l .pool) (a .s .now) (a .end .0) (a .root .0) (a .ids .now) _ (c .before .before .before .before .before .before .before .before .before .before .before .before .before .before .before .before .loop .path) (c .before .before .before .before .before .before .before .before .before .before .before .before .before .before .before .before .loop .nexts) (c .before .before .before .before .before .before .before .before .before .before .before .before .before .before .before .before .loop .firsts) (c .before .before .before .before .before .before .before .before .before .before .before .before .before .before .before .before .loop .named) (c .before .before .before .before .before .before .before .before .before .before .before .before .before .before .before .before .loop .to .0) (c .before .before .before .before .before .before .before .before .before .before .before .before .before .before .before .before .loop .last) (c .before .before .before .before .before .before .before .before .before .before .before .before .before .before .before .before .loop .inv) (c .before .before .before .before .before .before .before .before .before .before .before .before .before .before .before .loop-test .taken) has (c .before .before .before .before .before .before .before .before .before .if3 .left) _ (c .before .before .before .before .before .child .given .0 .1 .0) _ wt (c .before .before .before .before .before .before .before .before .before .before .before .before .before .before .if1 .left) _ _ (sym (ap (progressOf (a .ids .now)) (c .before .p .given .1)) ∙ c .before .before .before .scan-node .ensures)
 
 returns-5 : tie.Need-returns-5 Inv-loop μ-loop

@@ -7,7 +7,7 @@ use Rattle.node.specs.Layout.{shapeOf}
 use Rattle.model.specs.Words.{freeCount}
 use Rattle.model.specs.Prune.{Copies}
 use Rattle.model.specs.Refusals.{Outcome}
-use Rattle.pool.specs.Write.{listed}
+use Rattle.node_chain.specs.Chain.{listed}
 use Rattle.reap.proofs.Joined.{edge-ahead}
 use Rattle.prune.specs.Found.{trimsOf, leftOf, cutTo}
 use Rattle.prune.proofs.Edges.{found-spine, found-unsound, found-sound, writable}

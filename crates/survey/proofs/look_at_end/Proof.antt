@@ -4,7 +4,7 @@ use mathlib.Core.Path.{_≡_, sym, _∙_}
 use Rattle.node.specs.Layout.{shapeOf}
 use Rattle.model.specs.Words.{part, height, end}
 use Rattle.model.specs.Reading.{endFits}
-use Rattle.node.specs.Test.{limitOf}
+use Rattle.node_test.specs.Test.{limitOf}
 use Rattle.survey.proofs.WithEnds.{end-right, end-later, end-wrong}
 use Rattle.survey.proofs.look_at_end.Statement.{statement}
 use Rattle.survey.proofs.look_at_end.Tie as tie

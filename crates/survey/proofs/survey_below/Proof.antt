@@ -11,7 +11,7 @@ use borrow.Author.Tests.{not-true, not-false}
 use lib.ListN.{length}
 use Rattle.model.specs.Words.{part, height, count, child}
 use Rattle.model.specs.Paths.{stack, trail, lastOf, above, entered}
-use Rattle.node.specs.Test.{limitOf}
+use Rattle.node_test.specs.Test.{limitOf}
 use Rattle.walk.specs.Left.{bound, Valid, left, rest}
 use Rattle.walk.specs.Turn.{hasChild, enteredOf, entering}
 use Rattle.walk.proofs.Valid.{valid-top, valid-path}
@@ -148,8 +148,8 @@ returns-2 c =
     let x = c .before .before .before .before .before .before .before .before .before .before .before .before .loop in
     let z = c .before .before .before .before .before .before .before .before .before .before .before .loop-test .taken in
     let has : hasChild (shapeOf (a .l)) (a .s .now) (lastOf (x .path) .node .0) (lastOf (x .path) .index) ≡ true = sym (c .before .before .before .before .before .before .before .before .has-child .ensures) ∙ not-false _ (c .before .before .before .before .before .before .before .if1 .left) in
-    let at = ap (entering false (shapeOf (a .l)) (a .l .pool) (a .s .now) (lastOf (x .path) .node .0) (lastOf (x .path) .index)) (next-at (shapeOf (a .l)) (a .l .pool) (a .s .now) false _ (x .path) (x .bounded) (x .rows) (x .firsts) (x .counts) (x .inv .nodes) z _ (c .before .before .before .before .before .limit .ensures)) in
-    let bd = barred false (shapeOf (a .l)) (a .l .pool) (a .s .now) (lastOf (x .path) .node .0) (lastOf (x .path) .index) _ _ (sym (ap enteredOf (c .before .before .n .given .1)) ∙ c .before .before .before .before .enter .ensures ∙ at) in
+    let at = ap (entering (shapeOf (a .l)) (a .l .pool) (a .s .now) (lastOf (x .path) .node .0) (lastOf (x .path) .index)) (next-at (shapeOf (a .l)) (a .l .pool) (a .s .now) false _ (x .path) (x .bounded) (x .rows) (x .firsts) (x .counts) (x .inv .nodes) z _ (c .before .before .before .before .before .limit .ensures)) in
+    let bd = barred (shapeOf (a .l)) (a .l .pool) (a .s .now) (lastOf (x .path) .node .0) (lastOf (x .path) .index) _ _ (sym (ap enteredOf (c .before .before .n .given .1)) ∙ c .before .before .before .before .enter .ensures ∙ at) in
     let q = both-bad (shapeOf (a .l)) (a .l .pool) (a .s .now) _ _ (x .path) (limits (x .bounded) (x .rows)) (x .firsts) (x .counts) (x .wrong .0) (x .inv) z has (c .before .before .before .before .before .before .if2 .left) _ bd in
     (c .both2 .ensures .0 ∙ q .0 ∙ ap (λ (vs : List Visit). tally (shapeOf (a .l)) (a .s .now) vs (a .start)) (rooted-left false (shapeOf (a .l)) (a .l .pool) (a .s .now) (a .root .0) (c .before .before .before .before .before .before .before .before .before .before .before .before .before .before .pre .1 .0)), c .both2 .ensures .1 ∙ q .1 ∙ ap (λ (vs : List Visit). withEnds (a .l .pool) (a .seen .0) (tally (shapeOf (a .l)) (a .s .now) vs (a .start))) (rooted-left true (shapeOf (a .l)) (a .l .pool) (a .s .now) (a .root .0) (c .before .before .before .before .before .before .before .before .before .before .before .before .before .before .pre .1 .0)))
 
@@ -256,8 +256,8 @@ count-node-requires c κs =
     let x = c .before .before .before .before .before .before .before .before .before .before .before .before .before .loop in
     let z = c .before .before .before .before .before .before .before .before .before .before .before .before .loop-test .taken in
     let has : hasChild (shapeOf (a .l)) (a .s .now) (lastOf (x .path) .node .0) (lastOf (x .path) .index) ≡ true = sym (c .before .before .before .before .before .before .before .before .before .has-child .ensures) ∙ not-false _ (c .before .before .before .before .before .before .before .before .if1 .left) in
-    let at = ap (entering false (shapeOf (a .l)) (a .l .pool) (a .s .now) (lastOf (x .path) .node .0) (lastOf (x .path) .index)) (next-at (shapeOf (a .l)) (a .l .pool) (a .s .now) false _ (x .path) (x .bounded) (x .rows) (x .firsts) (x .counts) (x .inv .nodes) z _ (c .before .before .before .before .before .before .limit .ensures)) in
-    let wt = went false (shapeOf (a .l)) (a .l .pool) (a .s .now) (lastOf (x .path) .node .0) (lastOf (x .path) .index) _ _ _ _ (sym (ap enteredOf (c .before .before .before .child .given .1)) ∙ c .before .before .before .before .before .enter .ensures ∙ at) in
+    let at = ap (entering (shapeOf (a .l)) (a .l .pool) (a .s .now) (lastOf (x .path) .node .0) (lastOf (x .path) .index)) (next-at (shapeOf (a .l)) (a .l .pool) (a .s .now) false _ (x .path) (x .bounded) (x .rows) (x .firsts) (x .counts) (x .inv .nodes) z _ (c .before .before .before .before .before .before .limit .ensures)) in
+    let wt = went (shapeOf (a .l)) (a .l .pool) (a .s .now) (lastOf (x .path) .node .0) (lastOf (x .path) .index) _ _ _ _ (sym (ap enteredOf (c .before .before .before .child .given .1)) ∙ c .before .before .before .before .before .enter .ensures ∙ at) in
     (c .before .before .before .before .before .before .before .before .before .before .before .before .before .before .before .pre .0, narrow (shapeOf (a .l)) (a .l .pool) (a .s .now) false _ (x .path) (limits (x .bounded) (x .rows)) (x .firsts) (x .counts) (x .inv .nodes) z has (c .before .before .before .before .before .before .before .if2 .left) _ (c .before .before .before .child .given .0 .1 .0) _ wt)
 
 look-at-end-requires : tie.Need-look-at-end-requires Inv-loop μ-loop
@@ -266,8 +266,8 @@ look-at-end-requires c κs =
     let x = c .before .before .before .before .before .before .before .before .before .before .before .before .before .before .loop in
     let z = c .before .before .before .before .before .before .before .before .before .before .before .before .before .loop-test .taken in
     let has : hasChild (shapeOf (a .l)) (a .s .now) (lastOf (x .path) .node .0) (lastOf (x .path) .index) ≡ true = sym (c .before .before .before .before .before .before .before .before .before .before .has-child .ensures) ∙ not-false _ (c .before .before .before .before .before .before .before .before .before .if1 .left) in
-    let at = ap (entering false (shapeOf (a .l)) (a .l .pool) (a .s .now) (lastOf (x .path) .node .0) (lastOf (x .path) .index)) (next-at (shapeOf (a .l)) (a .l .pool) (a .s .now) false _ (x .path) (x .bounded) (x .rows) (x .firsts) (x .counts) (x .inv .nodes) z _ (c .before .before .before .before .before .before .before .limit .ensures)) in
-    let wt = went false (shapeOf (a .l)) (a .l .pool) (a .s .now) (lastOf (x .path) .node .0) (lastOf (x .path) .index) _ _ _ _ (sym (ap enteredOf (c .before .before .before .before .child .given .1)) ∙ c .before .before .before .before .before .before .enter .ensures ∙ at) in
+    let at = ap (entering (shapeOf (a .l)) (a .l .pool) (a .s .now) (lastOf (x .path) .node .0) (lastOf (x .path) .index)) (next-at (shapeOf (a .l)) (a .l .pool) (a .s .now) false _ (x .path) (x .bounded) (x .rows) (x .firsts) (x .counts) (x .inv .nodes) z _ (c .before .before .before .before .before .before .before .limit .ensures)) in
+    let wt = went (shapeOf (a .l)) (a .l .pool) (a .s .now) (lastOf (x .path) .node .0) (lastOf (x .path) .index) _ _ _ _ (sym (ap enteredOf (c .before .before .before .before .child .given .1)) ∙ c .before .before .before .before .before .before .enter .ensures ∙ at) in
     (c .before .before .before .before .before .before .before .before .before .before .before .before .before .before .before .before .pre .0, narrow (shapeOf (a .l)) (a .l .pool) (a .s .now) false _ (x .path) (limits (x .bounded) (x .rows)) (x .firsts) (x .counts) (x .inv .nodes) z has (c .before .before .before .before .before .before .before .before .if2 .left) _ (c .before .before .before .before .child .given .0 .1 .0) _ wt .0)
 
 loop-less-2 : tie.Need-loop-less-2 Inv-loop μ-loop
@@ -276,8 +276,8 @@ loop-less-2 c =
     let x = c .before .before .before .before .before .before .before .before .before .before .before .before .before .before .before .loop in
     let z = c .before .before .before .before .before .before .before .before .before .before .before .before .before .before .loop-test .taken in
     let has : hasChild (shapeOf (a .l)) (a .s .now) (lastOf (x .path) .node .0) (lastOf (x .path) .index) ≡ true = sym (c .before .before .before .before .before .before .before .before .before .before .before .has-child .ensures) ∙ not-false _ (c .before .before .before .before .before .before .before .before .before .before .if1 .left) in
-    let at = ap (entering false (shapeOf (a .l)) (a .l .pool) (a .s .now) (lastOf (x .path) .node .0) (lastOf (x .path) .index)) (next-at (shapeOf (a .l)) (a .l .pool) (a .s .now) false _ (x .path) (x .bounded) (x .rows) (x .firsts) (x .counts) (x .inv .nodes) z _ (c .before .before .before .before .before .before .before .before .limit .ensures)) in
-    let wt = went false (shapeOf (a .l)) (a .l .pool) (a .s .now) (lastOf (x .path) .node .0) (lastOf (x .path) .index) _ _ _ _ (sym (ap enteredOf (c .before .before .before .before .before .child .given .1)) ∙ c .before .before .before .before .before .before .before .enter .ensures ∙ at) in
+    let at = ap (entering (shapeOf (a .l)) (a .l .pool) (a .s .now) (lastOf (x .path) .node .0) (lastOf (x .path) .index)) (next-at (shapeOf (a .l)) (a .l .pool) (a .s .now) false _ (x .path) (x .bounded) (x .rows) (x .firsts) (x .counts) (x .inv .nodes) z _ (c .before .before .before .before .before .before .before .before .limit .ensures)) in
+    let wt = went (shapeOf (a .l)) (a .l .pool) (a .s .now) (lastOf (x .path) .node .0) (lastOf (x .path) .index) _ _ _ _ (sym (ap enteredOf (c .before .before .before .before .before .child .given .1)) ∙ c .before .before .before .before .before .before .before .enter .ensures ∙ at) in
     less-in (shapeOf (a .l)) (a .l .pool) (a .s .now) false _ (x .path) (limits (x .bounded) (x .rows)) (x .firsts) (x .counts) (x .inv .nodes) z has (c .before .before .before .before .before .before .before .before .before .if2 .left) _ (c .before .before .before .before .before .child .given .0 .1 .0) _ wt
 
 loop-again-2 : tie.Need-loop-again-2 Inv-loop μ-loop
@@ -286,8 +286,8 @@ loop-again-2 c =
     let x = c .before .before .before .before .before .before .before .before .before .before .before .before .before .before .before .loop in
     let z = c .before .before .before .before .before .before .before .before .before .before .before .before .before .before .loop-test .taken in
     let has : hasChild (shapeOf (a .l)) (a .s .now) (lastOf (x .path) .node .0) (lastOf (x .path) .index) ≡ true = sym (c .before .before .before .before .before .before .before .before .before .before .before .has-child .ensures) ∙ not-false _ (c .before .before .before .before .before .before .before .before .before .before .if1 .left) in
-    let at = ap (entering false (shapeOf (a .l)) (a .l .pool) (a .s .now) (lastOf (x .path) .node .0) (lastOf (x .path) .index)) (next-at (shapeOf (a .l)) (a .l .pool) (a .s .now) false _ (x .path) (x .bounded) (x .rows) (x .firsts) (x .counts) (x .inv .nodes) z _ (c .before .before .before .before .before .before .before .before .limit .ensures)) in
-    let wt = went false (shapeOf (a .l)) (a .l .pool) (a .s .now) (lastOf (x .path) .node .0) (lastOf (x .path) .index) _ _ _ _ (sym (ap enteredOf (c .before .before .before .before .before .child .given .1)) ∙ c .before .before .before .before .before .before .before .enter .ensures ∙ at) in
+    let at = ap (entering (shapeOf (a .l)) (a .l .pool) (a .s .now) (lastOf (x .path) .node .0) (lastOf (x .path) .index)) (next-at (shapeOf (a .l)) (a .l .pool) (a .s .now) false _ (x .path) (x .bounded) (x .rows) (x .firsts) (x .counts) (x .inv .nodes) z _ (c .before .before .before .before .before .before .before .before .limit .ensures)) in
+    let wt = went (shapeOf (a .l)) (a .l .pool) (a .s .now) (lastOf (x .path) .node .0) (lastOf (x .path) .index) _ _ _ _ (sym (ap enteredOf (c .before .before .before .before .before .child .given .1)) ∙ c .before .before .before .before .before .before .before .enter .ensures ∙ at) in
     rw (c .look-at-end .ensures, c .before .count-node .ensures, c .before .before .row-of .ensures, c .before .before .before .is-bounded .ensures, set-limits (x .bounded) (x .rows) (x .path .depth) (c .before .before .before .before .before .child .given .0 .1 .0))
     (both-in (shapeOf (a .l)) (a .l .pool) (a .s .now) _ _ (x .path) (limits (x .bounded) (x .rows)) (x .firsts) (x .counts) (x .wrong .0) (x .inv) z has (c .before .before .before .before .before .before .before .before .before .if2 .left) _ (c .before .before .before .before .before .child .given .0 .1 .0) _ wt)
 

@@ -10,7 +10,7 @@ use Rattle.model.specs.Words.{part, height, count, start, maxHeight}
 use Rattle.model.specs.Tree.{Open, nodeAt}
 use Rattle.model.specs.declared.node.RowPageIndexNodeHeader.{RowPageIndexNodeHeader}
 use Rattle.formed.proofs.Rooted.{empty-of}
-use Rattle.walk.specs.Turn.{passTest}
+use Rattle.node_test.specs.Test.{nodeTest}
 use Rattle.walk.proofs.Tests.{pass-sound, pass-unsound}
 use Rattle.walk.proofs.Rest.{passes-fits}
 use Rattle.survey.specs.Tally.{noCounts}
@@ -55,8 +55,8 @@ returns-2 c =
     let lo : leb (height (shapeOf (a .l)) (a .s .now) (a .root .0)) maxHeight ≡ false = sym (ap (λ (h : RowPageIndexNodeHeader). leb (h .height) maxHeight) (c .before .before .before .header .ensures)) ∙ sym (c .before .before .is-in-height .ensures) ∙ not-true _ (c .before .if2 .taken) in
     (c .both2 .ensures .0 ∙ sym (from-high false (shapeOf (a .l)) (a .l .pool) (a .s .now) (a .root .0) noCounts e lo), c .both2 .ensures .1 ∙ with-none _ _ _ (omega arith) ∙ sym (from-high true (shapeOf (a .l)) (a .l .pool) (a .s .now) (a .root .0) noCounts e lo))
 
-pass-requires : tie.Need-pass-requires
-pass-requires c κs = search needs
+test-node-requires : tie.Need-test-node-requires
+test-node-requires c κs = search needs
 
 enum-told : tie.Need-enum-told
 enum-told c = search needs
@@ -70,7 +70,7 @@ enum-known-first c = search needs
 count-node-requires-2 : tie.Need-count-node-requires-2
 count-node-requires-2 c κs =
     let a = c .before .before .before .before .before .before .before .before .before .before .args in
-    let s = pass-sound false (shapeOf (a .l)) (a .l .pool) (a .s .now) (a .root .0) (height (shapeOf (a .l)) (a .s .now) (a .root .0)) (start (shapeOf (a .l)) (a .s .now) (a .root .0)) Open _ (sym (c .before .before .before .pass .ensures ∙ ap (λ (h : RowPageIndexNodeHeader). passTest false (shapeOf (a .l)) (a .l .pool) (a .s .now) (a .root .0) (h .height) (h .«start_row_id» .0) Open) (c .before .before .before .before .before .before .header .ensures)) ∙ c .before .first .given .1) in
+    let s = pass-sound (shapeOf (a .l)) (a .l .pool) (a .s .now) (a .root .0) (height (shapeOf (a .l)) (a .s .now) (a .root .0)) (start (shapeOf (a .l)) (a .s .now) (a .root .0)) Open _ (sym (c .before .before .before .test-node .ensures ∙ ap (λ (h : RowPageIndexNodeHeader). nodeTest (shapeOf (a .l)) (a .l .pool) (a .s .now) (a .root .0) (h .height) (h .«start_row_id» .0) Open) (c .before .before .before .before .before .before .header .ensures)) ∙ c .before .first .given .1) in
     (c .before .before .before .before .before .before .before .before .before .before .pre .0, (c .before .before .before .before .before .before .before .before .before .before .pre .1, passes-fits false (shapeOf (a .l)) (a .s .now) (a .root .0) (height (shapeOf (a .l)) (a .s .now) (a .root .0)) (start (shapeOf (a .l)) (a .s .now) (a .root .0)) Open (s .0) .1))
 
 look-at-end-requires : tie.Need-look-at-end-requires
@@ -80,7 +80,7 @@ survey-below-requires : tie.Need-survey-below-requires
 survey-below-requires c κs =
     let a = c .before .before .before .before .before .before .before .before .before .before .before .before .args in
     let hi : leb (height (shapeOf (a .l)) (a .s .now) (a .root .0)) maxHeight ≡ true = sym (ap (λ (h : RowPageIndexNodeHeader). leb (h .height) maxHeight) (c .before .before .before .before .before .before .before .before .header .ensures)) ∙ sym (c .before .before .before .before .before .before .before .is-in-height .ensures) ∙ not-false _ (c .before .before .before .before .before .before .if2 .left) in
-    let s = pass-sound false (shapeOf (a .l)) (a .l .pool) (a .s .now) (a .root .0) (height (shapeOf (a .l)) (a .s .now) (a .root .0)) (start (shapeOf (a .l)) (a .s .now) (a .root .0)) Open _ (sym (c .before .before .before .before .before .pass .ensures ∙ ap (λ (h : RowPageIndexNodeHeader). passTest false (shapeOf (a .l)) (a .l .pool) (a .s .now) (a .root .0) (h .height) (h .«start_row_id» .0) Open) (c .before .before .before .before .before .before .before .before .header .ensures)) ∙ c .before .before .before .first .given .1) in
+    let s = pass-sound (shapeOf (a .l)) (a .l .pool) (a .s .now) (a .root .0) (height (shapeOf (a .l)) (a .s .now) (a .root .0)) (start (shapeOf (a .l)) (a .s .now) (a .root .0)) Open _ (sym (c .before .before .before .before .before .test-node .ensures ∙ ap (λ (h : RowPageIndexNodeHeader). nodeTest (shapeOf (a .l)) (a .l .pool) (a .s .now) (a .root .0) (h .height) (h .«start_row_id» .0) Open) (c .before .before .before .before .before .before .before .before .header .ensures)) ∙ c .before .before .before .first .given .1) in
     (c .before .before .before .before .before .before .before .before .before .before .before .before .pre .0, (root-valid false (shapeOf (a .l)) (a .l .pool) (a .s .now) (a .root .0) (leb-true _ _ hi) (c .before .before .before .before .before .before .before .before .before .before .before .before .pre .1) (s .0), s .1))
 
 returns-3 : tie.Need-returns-3
@@ -88,7 +88,7 @@ returns-3 c =
     let a = c .before .before .before .before .before .before .before .before .before .before .args in
     let e = sym (c .before .before .before .before .before .before .before .before .is-empty-root .ensures) ∙ c .before .before .before .before .before .before .before .if1 .left in
     let hi : leb (height (shapeOf (a .l)) (a .s .now) (a .root .0)) maxHeight ≡ true = sym (ap (λ (h : RowPageIndexNodeHeader). leb (h .height) maxHeight) (c .before .before .before .before .before .before .header .ensures)) ∙ sym (c .before .before .before .before .before .is-in-height .ensures) ∙ not-false _ (c .before .before .before .before .if2 .left) in
-    let s = pass-unsound false (shapeOf (a .l)) (a .l .pool) (a .s .now) (a .root .0) (height (shapeOf (a .l)) (a .s .now) (a .root .0)) (start (shapeOf (a .l)) (a .s .now) (a .root .0)) Open (sym (c .before .before .before .pass .ensures ∙ ap (λ (h : RowPageIndexNodeHeader). passTest false (shapeOf (a .l)) (a .l .pool) (a .s .now) (a .root .0) (h .height) (h .«start_row_id» .0) Open) (c .before .before .before .before .before .before .header .ensures)) ∙ c .before .enum-told .given .1) in
+    let s = pass-unsound (shapeOf (a .l)) (a .l .pool) (a .s .now) (a .root .0) (height (shapeOf (a .l)) (a .s .now) (a .root .0)) (start (shapeOf (a .l)) (a .s .now) (a .root .0)) Open (sym (c .before .before .before .test-node .ensures ∙ ap (λ (h : RowPageIndexNodeHeader). nodeTest (shapeOf (a .l)) (a .l .pool) (a .s .now) (a .root .0) (h .height) (h .«start_row_id» .0) Open) (c .before .before .before .before .before .before .header .ensures)) ∙ c .before .enum-told .given .1) in
     let t = bad-too (shapeOf (a .l)) (height (shapeOf (a .l)) (a .s .now) (a .root .0)) (nodeAt (shapeOf (a .l)) (a .s .now) (a .root .0)) (start (shapeOf (a .l)) (a .s .now) (a .root .0)) Open s in
     (c .both3 .ensures .0 ∙ sym (from-bad false (shapeOf (a .l)) (a .l .pool) (a .s .now) (a .root .0) noCounts e hi (c .before .before .before .before .before .before .before .before .before .before .pre .1) s), c .both3 .ensures .1 ∙ with-none _ _ _ (omega arith) ∙ sym (from-bad true (shapeOf (a .l)) (a .l .pool) (a .s .now) (a .root .0) noCounts e hi (c .before .before .before .before .before .before .before .before .before .before .pre .1) t))
 
@@ -97,7 +97,7 @@ returns-4 c =
     let a = c .before .before .before .before .before .before .before .before .before .before .before .before .before .args in
     let e = sym (c .before .before .before .before .before .before .before .before .before .before .before .is-empty-root .ensures) ∙ c .before .before .before .before .before .before .before .before .before .before .if1 .left in
     let hi : leb (height (shapeOf (a .l)) (a .s .now) (a .root .0)) maxHeight ≡ true = sym (ap (λ (h : RowPageIndexNodeHeader). leb (h .height) maxHeight) (c .before .before .before .before .before .before .before .before .before .header .ensures)) ∙ sym (c .before .before .before .before .before .before .before .before .is-in-height .ensures) ∙ not-false _ (c .before .before .before .before .before .before .before .if2 .left) in
-    let s = pass-sound false (shapeOf (a .l)) (a .l .pool) (a .s .now) (a .root .0) (height (shapeOf (a .l)) (a .s .now) (a .root .0)) (start (shapeOf (a .l)) (a .s .now) (a .root .0)) Open _ (sym (c .before .before .before .before .before .before .pass .ensures ∙ ap (λ (h : RowPageIndexNodeHeader). passTest false (shapeOf (a .l)) (a .l .pool) (a .s .now) (a .root .0) (h .height) (h .«start_row_id» .0) Open) (c .before .before .before .before .before .before .before .before .before .header .ensures)) ∙ c .before .before .before .before .first .given .1) in
+    let s = pass-sound (shapeOf (a .l)) (a .l .pool) (a .s .now) (a .root .0) (height (shapeOf (a .l)) (a .s .now) (a .root .0)) (start (shapeOf (a .l)) (a .s .now) (a .root .0)) Open _ (sym (c .before .before .before .before .before .before .test-node .ensures ∙ ap (λ (h : RowPageIndexNodeHeader). nodeTest (shapeOf (a .l)) (a .l .pool) (a .s .now) (a .root .0) (h .height) (h .«start_row_id» .0) Open) (c .before .before .before .before .before .before .before .before .before .header .ensures)) ∙ c .before .before .before .before .first .given .1) in
     let i = c .before .before .before .before .before .before .before .before .before .before .before .before .before .pre .1 in (
       c .survey-below .ensures .0 ∙ rw (c .before .before .count-node2 .ensures) (sym (from-good false (shapeOf (a .l)) (a .l .pool) (a .s .now) (a .root .0) noCounts e hi i (s .0))),
       c .survey-below .ensures .1 ∙ rw (c .before .look-at-end .ensures, c .before .before .count-node2 .ensures) (sym (from-both (shapeOf (a .l)) (a .l .pool) (a .s .now) (a .root .0) noCounts e hi i (s .0))),
@@ -115,7 +115,7 @@ survey-both-spec =
     is-in-height-requires
     both-requires-2
     returns-2
-    pass-requires
+    test-node-requires
     enum-told
     both-requires-3
     enum-known-first

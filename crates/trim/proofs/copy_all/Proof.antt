@@ -6,7 +6,7 @@ use native.Mathlib.Nat.{sub-zero}
 use Rattle.model.specs.Prune.{copyAll}
 use Rattle.node.specs.Layout.{shapeOf, Fits}
 use Rattle.model.proofs.Words.{header-at}
-use Rattle.pool.specs.Write.{listed}
+use Rattle.node_chain.specs.Chain.{listed}
 use Rattle.trim.specs.Picks.{AllIn}
 use Rattle.trim.proofs.Turns.{turn, stop, copied-header}
 use Rattle.trim.proofs.copy_all.Statement.{statement}

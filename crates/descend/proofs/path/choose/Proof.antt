@@ -8,8 +8,8 @@ use Rattle.model.specs.Words.{part, count}
 use Rattle.model.specs.Tree.{rising, pairsFrom}
 use Rattle.model.specs.Reading.{lastNotAbove, nextRow}
 use Rattle.model.proofs.Tests.{holds}
-use Rattle.node.specs.Test.{limitOf}
-use Rattle.node.proofs.Rows.{facts, sound-if}
+use Rattle.node_test.specs.Test.{limitOf}
+use Rattle.node_test.proofs.Rows.{facts, sound-if}
 use Rattle.descend.specs.Reached.{chooser}
 use Rattle.descend.proofs.Places.{place-below}
 use Rattle.descend.proofs.Down.{next-last}

@@ -7,8 +7,8 @@ use borrow.Author.Tests.{not-true, not-false}
 use Rattle.node.specs.Layout.{shapeOf}
 use Rattle.model.specs.Words.{part, count, row, child}
 use Rattle.model.specs.Reading.{descend, nextRow}
-use Rattle.node.specs.Test.{limitOf}
-use Rattle.node.proofs.Rows.{facts}
+use Rattle.node_test.specs.Test.{limitOf}
+use Rattle.node_test.proofs.Rows.{facts}
 use Rattle.descend.specs.Reached.{chooser, reachedOf}
 use Rattle.descend.proofs.Down.{far, bad, ends, down}
 use Rattle.descend.proofs.path.find_below.Statement.{statement}

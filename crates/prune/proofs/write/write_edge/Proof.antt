@@ -9,7 +9,7 @@ use Rattle.model.specs.Prune.{copyAll, trimAll}
 use Rattle.model.proofs.Writes.{free-all-count}
 use Rattle.cut.proofs.Trim.{trims-word}
 use Rattle.cut.proofs.Copy.{copies-word}
-use Rattle.pool.specs.Write.{listed}
+use Rattle.node_chain.specs.Chain.{listed}
 use Rattle.reap.proofs.Order.{freed-first}
 use Rattle.prune.specs.Found.{leftOf, trimsOf}
 use Rattle.prune.proofs.Written.{freed-header, freed-trims, trims-header, copies-header}

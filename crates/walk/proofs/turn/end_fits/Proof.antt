@@ -1,7 +1,7 @@
 use borrow.Author.Needs.{needs}
 use mathlib.Core.Path.{sym, _∙_, ap}
 use Rattle.model.specs.Reading.{endFits}
-use Rattle.node.specs.Test.{limitOf}
+use Rattle.node_test.specs.Test.{limitOf}
 use Rattle.walk.proofs.Tests.{ends-leaf, ends-none, ends-open, ends-below}
 use Rattle.walk.proofs.turn.end_fits.Statement.{statement}
 use Rattle.walk.proofs.turn.end_fits.Tie as tie

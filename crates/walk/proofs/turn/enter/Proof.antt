@@ -3,8 +3,8 @@ use mathlib.Core.Path.{_≡_, sym, _∙_, ap}
 use native.Mathlib.Omega.{arith}
 use Rattle.node.specs.Layout.{shapeOf}
 use Rattle.model.specs.declared.node.RowPageIndexNodeHeader.{RowPageIndexNodeHeader}
-use Rattle.node.specs.Test.{limitOf}
-use Rattle.node.specs.declared.test.NodeTest.the-variants.{Unsound, Sound}
+use Rattle.node_test.specs.Test.{limitOf}
+use Rattle.node_test.specs.declared.NodeTest.the-variants.{Unsound, Sound}
 use Rattle.walk.proofs.Tests.{tested, enters, stays}
 use Rattle.walk.proofs.turn.enter.Statement.{statement}
 use Rattle.walk.proofs.turn.enter.Tie as tie

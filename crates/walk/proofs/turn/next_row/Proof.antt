@@ -4,7 +4,7 @@ use native.Mathlib.Omega.{arith}
 use Rattle.node.specs.Layout.{shapeOf}
 use Rattle.model.specs.Tree.{Below}
 use Rattle.model.specs.declared.node.RowPageIndexNodeHeader.{RowPageIndexNodeHeader}
-use Rattle.node.specs.Test.{limitOf}
+use Rattle.node_test.specs.Test.{limitOf}
 use Rattle.walk.proofs.Tests.{next-here, next-beyond}
 use Rattle.walk.proofs.turn.next_row.Statement.{statement}
 use Rattle.walk.proofs.turn.next_row.Tie as tie
