@@ -15,9 +15,9 @@ use Rattle.node.specs.declared.header.Opened as H
 use Rattle.node.specs.declared.header.Opened.the-variants as O
 use Rattle.node_test.specs.declared.NodeTest.{NodeTest}
 use Rattle.node_test.specs.declared.NodeTest.the-variants.{Unsound, Sound}
-use Rattle.survey.specs.Tally.{noCounts, tally}
-use Rattle.survey.specs.declared.Survey.{Survey}
-use Rattle.survey.specs.declared.Survey.the-variants as S
+use Rattle.tally.specs.Tally.{noCounts, tally}
+use Rattle.tally.specs.declared.Survey.{Survey}
+use Rattle.tally.specs.declared.Survey.the-variants as S
 
 -- the header is damaged, the store is closed, a node number is out of range, or the tree is unsound
 abbrev pub refused : ℕ

@@ -17,7 +17,7 @@ use node_test;
 use node_test::Limit;
 use node_test::NodeTest;
 use survey;
-use survey::Survey;
+use tally::Survey;
 
 // Refused: the header is damaged, the store is closed, a node number is out of range, or the tree is unsound.
 const REFUSED: u64 = u64::MAX;

@@ -13,10 +13,10 @@ use crate::place;
 use model::id::NodeNo;
 use model::id::RowID;
 use node::layout::Layout;
+use node_root;
 use node_test;
 use node_test::Limit;
 use walk::turn;
-use node_root;
 
 // Where the path goes in each branch: by the last entry whose row is not above the sought one, or by the last entry.
 pub enum Toward {

@@ -19,10 +19,10 @@ use Rattle.node.specs.Layout.{shapeOf, opened}
 use Rattle.node.specs.declared.header.StoreHeader.{StoreHeader}
 use Rattle.node.specs.declared.header.Opened.the-variants.{Refused}
 use Rattle.node.proofs.Opened.{IsOpen, is-refused}
-use Rattle.survey.specs.Tally.{noCounts, tally}
-use Rattle.survey.specs.declared.Counts.{Counts}
-use Rattle.survey.specs.declared.Survey.{Survey}
-use Rattle.survey.specs.declared.Survey.the-variants.{Unsound, Counted}
+use Rattle.tally.specs.Tally.{noCounts, tally}
+use Rattle.tally.specs.declared.Counts.{Counts}
+use Rattle.tally.specs.declared.Survey.{Survey}
+use Rattle.tally.specs.declared.Survey.the-variants.{Unsound, Counted}
 use Rattle.survey.proofs.Exact.{survey-bad, survey-clear, survey-counts}
 use Rattle.destroy.specs.Releasable.{Releasable, startsBelow}
 use Rattle.destroy.proofs.Pivot.{pivot}

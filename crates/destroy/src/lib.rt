@@ -10,8 +10,8 @@ ghost use Rattle.model.specs.Release.{destroy, destroyEmpty, releasedWords};
 ghost use Rattle.model.specs.Refusals.{destroyed};
 ghost use Rattle.node.specs.Layout.{Fits, opened, shapeOf};
 ghost use Rattle.node.specs.declared.header.Opened.the-variants.{Open};
-ghost use Rattle.survey.specs.Tally.{noCounts, tally};
-ghost use Rattle.survey.specs.declared.Survey.the-variants.{Counted};
+ghost use Rattle.tally.specs.Tally.{noCounts, tally};
+ghost use Rattle.tally.specs.declared.Survey.the-variants.{Counted};
 ghost use Rattle.destroy.specs.Pages.{pagesAt};
 ghost use Rattle.destroy.specs.Releasable.{Releasable, startsBelow};
 use model::answer::Destroyed;
@@ -24,15 +24,15 @@ use node::header;
 use node::header::Opened;
 use node::header::StoreHeader;
 use node::layout::Layout;
-use node_test;
 use node_chain;
+use node_root;
+use node_test;
 use pool::write;
 use reclaim;
 use survey;
-use survey::Counts;
-use survey::Survey;
+use tally::Counts;
+use tally::Survey;
 use walk::turn;
-use node_root;
 
 // The page ids of a leaf go into the list from place at on; the place after them. A branch has none.
 fn copy_leaf(l: Layout, s: &[u64], n: NodeNo, pages: &mut [u64], at: usize) -> usize

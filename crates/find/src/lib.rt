@@ -22,8 +22,8 @@ use model::id::RowID;
 use node::header;
 use node::header::Opened;
 use node::layout::Layout;
-use node_test;
 use node_root;
+use node_test;
 
 // In a leaf that was reached.
 fn find_in_leaf(l: Layout, s: &[u64], n: NodeNo, row: RowID) -> RowLocation

@@ -10,7 +10,7 @@ use Rattle.model.specs.Words.{Shape, height, count, freeMark}
 use Rattle.model.specs.FullCheck.{chainEnds}
 use Rattle.model.specs.Refusals.{result, damaged}
 use Rattle.node.specs.declared.header.StoreHeader.{StoreHeader}
-use Rattle.survey.specs.declared.Counts.{Counts}
+use Rattle.tally.specs.declared.Counts.{Counts}
 use Rattle.full_check.specs.Ending.{ending}
 
 module _ (C : Shape) (P : ℕ) (w : List ℕ) (n i : ℕ) where

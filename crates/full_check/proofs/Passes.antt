@@ -12,10 +12,10 @@ use Rattle.formed.proofs.Rooted.{root-sound}
 use Rattle.node.specs.Layout.{shapeOf, storeHeader}
 use Rattle.node.specs.declared.header.StoreHeader.{StoreHeader}
 use Rattle.node.proofs.Opened.{IsOpen, goes-on}
-use Rattle.survey.specs.Tally.{noCounts, tally}
-use Rattle.survey.specs.declared.Counts.{Counts}
-use Rattle.survey.specs.declared.Survey.{Survey}
-use Rattle.survey.specs.declared.Survey.the-variants.{Unsound, Counted}
+use Rattle.tally.specs.Tally.{noCounts, tally}
+use Rattle.tally.specs.declared.Counts.{Counts}
+use Rattle.tally.specs.declared.Survey.{Survey}
+use Rattle.tally.specs.declared.Survey.the-variants.{Unsound, Counted}
 use Rattle.survey.proofs.Exact.{survey-bad, survey-clear, survey-counts}
 use Rattle.full_check.specs.Ending.{ending}
 

@@ -6,7 +6,7 @@ use lib.Dec.{eqb}
 use Rattle.model.specs.Words.{pick}
 use Rattle.model.specs.Refusals.{Answer, result, damaged}
 use Rattle.node.specs.declared.header.StoreHeader.{StoreHeader}
-use Rattle.survey.specs.declared.Counts.{Counts}
+use Rattle.tally.specs.declared.Counts.{Counts}
 
 unfoldable pub ending : StoreHeader → Counts → Bool → Answer
 ending h k chain =

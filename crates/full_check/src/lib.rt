@@ -17,8 +17,8 @@ use node::header::Opened;
 use node::header::StoreHeader;
 use node::layout::Layout;
 use survey;
-use survey::Counts;
-use survey::Survey;
+use tally::Counts;
+use tally::Survey;
 
 // Whether k free nodes from head on lead to the end of the chain.
 fn follow_chain(l: Layout, s: &[u64], head: NodeNo, k: u64) -> bool

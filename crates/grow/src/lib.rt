@@ -13,9 +13,9 @@ use model::id::PageID;
 use model::id::RowID;
 use model::node::RowPageIndexNodeHeader;
 use node::layout::Layout;
-use pool::write;
-use node_pairs;
 use node_copy;
+use node_pairs;
+use pool::write;
 
 // A page, its first row and the row after its last.
 pub struct NewPage {

@@ -11,10 +11,10 @@ ghost use Rattle.model.specs.Reading.{occ};
 ghost use Rattle.model.specs.Append.{chainSound, firsts, past};
 ghost use Rattle.node.specs.Layout.{Fits, shapeOf};
 ghost use Rattle.node_chain.specs.Chain.{isLink, listed};
-use pool::write;
 use model::id::NodeNo;
 use model::node::RowPageIndexNodeHeader;
 use node::layout::Layout;
+use pool::write;
 
 // The head of the chain and the free count, as nodes are taken.
 pub fn set_chain(s: &mut [u64], head: NodeNo, free: u64)

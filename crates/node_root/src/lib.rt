@@ -5,8 +5,8 @@ ghost use mathlib.Core.Bool.{true};
 ghost use Prim.Native.Nat.{_-_, _<_};
 ghost use Rattle.model.specs.Tree.{emptyRoot, rootSound, sound};
 ghost use Rattle.node.specs.Layout.{Fits, shapeOf};
-use node::layout::Layout;
 use model::id::NodeNo;
+use node::layout::Layout;
 use node_test;
 use node_test::Limit;
 

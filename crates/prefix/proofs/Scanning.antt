@@ -25,9 +25,9 @@ use Rattle.walk.proofs.Rest.{left-none, child-good}
 use Rattle.walk.proofs.Branch.{branch, Went, Barred, move-out, move-far, move-bad, move-in}
 use Rattle.walk.proofs.InPlace.{rooted, popped, turnedPath, enteredPath, turned-trail, entered-trail, entered-last}
 use Rattle.walk.proofs.Outs.{out-range}
-use Rattle.survey.specs.Tally.{counted, noCounts, tally}
-use Rattle.survey.specs.declared.Counts.{Counts}
-use Rattle.survey.specs.declared.Survey.{Survey}
+use Rattle.tally.specs.Tally.{counted, noCounts, tally}
+use Rattle.tally.specs.declared.Counts.{Counts}
+use Rattle.tally.specs.declared.Survey.{Survey}
 use Rattle.survey.proofs.Going.{Beside, Going, start-going, going-out, less-out, inside, deep, ranged, narrow, going-in, less-in}
 use Rattle.model.specs.Refusals.{Answer, result, refused}
 use Rattle.model.proofs.Tests.{by-test}

@@ -25,6 +25,7 @@ use model::path::Path;
 use node::header;
 use node::header::Opened;
 use node::header::StoreHeader;
+use node_root;
 use node_test;
 use node_test::Limit;
 use node_test::NodeTest;
@@ -33,7 +34,6 @@ use prefix::Named;
 use prefix::Prefix;
 use reap;
 use walk::turn;
-use node_root;
 
 pub mod write;
 
@@ -146,12 +146,7 @@ fn prune_filled(h: StoreHeader, s: &mut [u64], start: RowID, end: RowID, ids: &[
     if !head.is_in_height() {
         return Pruned::Refused(Refusal::Unsound(root));
     }
-    match node_test::test_node(l, &s[..],
-        root,
-        head.height,
-        head.start_row_id,
-        Limit::Open,
-    ) {
+    match node_test::test_node(l, &s[..], root, head.height, head.start_row_id, Limit::Open) {
         NodeTest::Unsound => Pruned::Refused(Refusal::Unsound(root)),
         NodeTest::Sound(first) => {
             let begin = head.start_row_id;

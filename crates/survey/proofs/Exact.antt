@@ -19,10 +19,10 @@ use Rattle.formed.proofs.Few.{root-few-nodes, root-few-entries}
 use Rattle.formed.proofs.Rooted.{sound-root}
 use Rattle.formed.proofs.Tally.{entered, pagesIn, lower, sound-visits, leaf-visits, tree-visits, blank-visits, root-entered, root-pages}
 use Rattle.survey.specs.Leaves.{sumPairs, leafCount, rootLeaves}
-use Rattle.survey.specs.Tally.{more, noCounts, counted, tally}
-use Rattle.survey.specs.declared.Counts.{Counts}
-use Rattle.survey.specs.declared.Survey.{Survey}
-use Rattle.survey.specs.declared.Survey.the-variants.{Unsound, Counted}
+use Rattle.tally.specs.Tally.{more, noCounts, counted, tally}
+use Rattle.tally.specs.declared.Counts.{Counts}
+use Rattle.tally.specs.declared.Survey.{Survey}
+use Rattle.tally.specs.declared.Survey.the-variants.{Unsound, Counted}
 
 -- Which node it names ------------------------------------------------------------------------------------
 

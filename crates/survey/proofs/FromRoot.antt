@@ -12,10 +12,10 @@ use Rattle.model.specs.Reading.{Visit, Enter, Leave, Bad, passes, visits, rootV
 use Rattle.model.specs.Paths.{entered}
 use Rattle.walk.specs.Left.{bound, rest, Valid}
 use Rattle.walk.proofs.Rest.{child-bad, child-good, valid-entered}
-use Rattle.survey.specs.Tally.{counted, tally}
-use Rattle.survey.specs.declared.Counts.{Counts}
-use Rattle.survey.specs.declared.Survey.{Survey}
-use Rattle.survey.specs.declared.Survey.the-variants.{Unsound, Counted}
+use Rattle.tally.specs.Tally.{counted, tally}
+use Rattle.tally.specs.declared.Counts.{Counts}
+use Rattle.tally.specs.declared.Survey.{Survey}
+use Rattle.tally.specs.declared.Survey.the-variants.{Unsound, Counted}
 
 module _ (ends : Bool) (C : Shape) (P : ℕ) (w : List ℕ) (n : ℕ) (k : Counts) where
   pub from-empty : emptyRoot C w n ≡ true → tally C w (rootVisits ends C P w n) k ≡ Counted (counted C w n k)

@@ -23,10 +23,10 @@ use Rattle.walk.proofs.Rest.{left-none, bound-turned, passes-fits}
 use Rattle.walk.proofs.Branch.{branch, Went, Barred, move-out, move-far, move-bad, move-in}
 use Rattle.walk.proofs.InPlace.{rooted, popped, turnedPath, enteredPath, turned-trail, entered-trail, entered-length, entered-above, entered-other, entered-under, entered-turned, entered-last}
 use Rattle.walk.proofs.Outs.{in-range, out-range}
-use Rattle.survey.specs.Tally.{counted, tally}
-use Rattle.survey.specs.declared.Counts.{Counts}
-use Rattle.survey.specs.declared.Survey.{Survey}
-use Rattle.survey.specs.declared.Survey.the-variants.{Unsound, Counted}
+use Rattle.tally.specs.Tally.{counted, tally}
+use Rattle.tally.specs.declared.Counts.{Counts}
+use Rattle.tally.specs.declared.Survey.{Survey}
+use Rattle.tally.specs.declared.Survey.the-variants.{Unsound, Counted}
 
 module _ (C : Shape) (P : ℕ) (w : List ℕ) where
   -- what stands beside position d

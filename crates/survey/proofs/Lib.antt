@@ -1,5 +1,5 @@
 pub mod Going
-pub mod Limits
 pub mod FromRoot
 pub mod WithEnds
 pub mod Exact
+pub mod Limits

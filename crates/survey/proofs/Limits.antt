@@ -11,9 +11,9 @@ use Rattle.node_test.specs.Test.{limitOf}
 use Rattle.node_test.specs.declared.Limit.{Limit}
 use Rattle.node_test.specs.declared.Limit.the-variants.{Open, Below}
 use Rattle.walk.proofs.Valid.{Top, valid-top}
-use Rattle.survey.specs.Limits.{limit, bounded, rowOf, limits}
-use Rattle.survey.specs.declared.Counts.{Counts}
-use Rattle.survey.specs.declared.Survey.{Survey}
+use Rattle.walk_limit.specs.Limits.{limit, bounded, rowOf, limits}
+use Rattle.tally.specs.declared.Counts.{Counts}
+use Rattle.tally.specs.declared.Survey.{Survey}
 use Rattle.survey.proofs.Going.{Going}
 
 pub limit-of : (b : Limit) → limit (bounded b) (rowOf b) ≡ b

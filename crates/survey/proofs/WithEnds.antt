@@ -22,11 +22,11 @@ use Rattle.walk.specs.Turn.{hasChild, outOf}
 use Rattle.walk.proofs.Branch.{Went, Barred}
 use Rattle.walk.proofs.Rest.{passes-fits}
 use Rattle.walk.proofs.InPlace.{rooted, popped, enteredPath}
-use Rattle.survey.specs.Tally.{counted, tally}
+use Rattle.tally.specs.Tally.{counted, tally}
 use Rattle.survey.specs.Ends.{wrongEnd, withEnds}
-use Rattle.survey.specs.declared.Counts.{Counts}
-use Rattle.survey.specs.declared.Survey.{Survey}
-use Rattle.survey.specs.declared.Survey.the-variants.{Unsound, Counted}
+use Rattle.tally.specs.declared.Counts.{Counts}
+use Rattle.tally.specs.declared.Survey.{Survey}
+use Rattle.tally.specs.declared.Survey.the-variants.{Unsound, Counted}
 use Rattle.survey.proofs.Going.{Going, start-going, done, going-out, going-far, going-bad, going-in, narrow}
 use Rattle.survey.proofs.FromRoot.{from-bad, from-good}
 

@@ -5,8 +5,8 @@ use lib.Dec.{ltb}
 use Rattle.model.specs.Words.{Shape, pick, height, end}
 use Rattle.model.specs.Tree.{Limit}
 use Rattle.model.specs.Reading.{endFits}
-use Rattle.survey.specs.declared.Survey.{Survey}
-use Rattle.survey.specs.declared.Survey.the-variants.{Unsound, Counted}
+use Rattle.tally.specs.declared.Survey.{Survey}
+use Rattle.tally.specs.declared.Survey.the-variants.{Unsound, Counted}
 
 -- the first branch whose end is wrong, once node n was looked at; m is the one before, P where there is none
 unfoldable pub wrongEnd : Shape → ℕ → List ℕ → ℕ → Limit → ℕ → ℕ

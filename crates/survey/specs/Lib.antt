@@ -1,4 +1,2 @@
-pub mod Tally
 pub mod Leaves
 pub mod Ends
-pub mod Limits

@@ -4,82 +4,37 @@
 ghost use mathlib.Core.Path.{_≡_};
 ghost use mathlib.Core.Bool.{true, false};
 ghost use mathlib.Core.List.{[], _∷_};
-ghost use Prim.Native.Nat.{_+_, _-_, _≤_, _<_};
-ghost use Rattle.model.specs.Words.{count, height};
+ghost use Prim.Native.Nat.{_+_, _-_, _<_};
+ghost use Rattle.model.specs.Words.{height};
 ghost use Rattle.model.specs.Reading.{rootVisits};
 ghost use Rattle.model.specs.Paths.{entered};
 ghost use Rattle.node.specs.Layout.{Fits, shapeOf};
 ghost use Rattle.node_test.specs.Test.{limitOf};
 ghost use Rattle.walk.specs.Left.{Valid, rest};
 ghost use Rattle.walk.specs.Turn.{outOf};
-ghost use Rattle.survey.specs.Tally.{counted, more, noCounts, tally};
+ghost use Rattle.tally.specs.Tally.{more, noCounts, tally};
 ghost use Rattle.survey.specs.Ends.{wrongEnd, withEnds};
-ghost use Rattle.survey.specs.Limits.{bounded, limit, rowOf};
+ghost use Rattle.walk_limit.specs.Limits.{bounded, limit};
 use model::id::NodeNo;
 use model::id::RowID;
 use model::path::Path;
 use model::path::Position;
 use node::layout::Layout;
+use node_root;
 use node_test;
 use node_test::Limit;
 use node_test::NodeTest;
+use tally;
+use tally::Counts;
+use tally::Survey;
 use walk::turn;
 use walk::turn::Entered;
-use node_root;
-
-// What a reading has counted. A sound tree has at most 65,535 nodes, so the counts of one never reach Counts::MOST.
-pub struct Counts {
-    pub nodes: u64,
-    pub leaves: u64,
-    pub entries: u64,
-}
-
-impl Counts {
-    pub const MOST: u64 = 1 << 32;
-}
-
-pub enum Survey {
-    Unsound(NodeNo),
-    Counted(Counts),
-}
+use walk_limit;
 
 // The reading without ends and the one with ends, made in one walk.
 pub struct Surveys {
     pub nodes: Survey,
     pub ends: Survey,
-}
-
-// k and some more, up to what is told apart.
-fn add(k: u64, some: u64) -> u64
-    requires { ⌜ some ≤ 4094 ⌝ }
-    ensures { λ r. ⌜ r ≡ more k some ⌝ }
-{
-    if k < Counts::MOST { k + some } else { k }
-}
-
-// Node n counted.
-fn count_node(l: Layout, s: &[u64], n: NodeNo, k: Counts) -> Counts
-    requires { ⌜ Fits l (now s) ⌝ }
-    requires { ⌜ (n .0 < l .pool) × (count (shapeOf l) (now s) (n .0) ≤ l .capacity) ⌝ }
-    ensures { λ r. ⌜ r ≡ counted (shapeOf l) (now (s .entry)) (n .0) k ⌝ }
-{
-    let nodes = add(k.nodes, 1);
-    let height = l.part(s, n, 0);
-    if height != 0 {
-        return Counts {
-            nodes,
-            leaves: k.leaves,
-            entries: k.entries,
-        };
-    }
-    let leaves = add(k.leaves, 1);
-    let count = l.part(s, n, 1);
-    let entries = add(k.entries, count);
-    Counts {
-        nodes,
-        leaves,
-        entries,
-    }
 }
 
 // The first branch whose end is wrong, once sound node n was looked at. Number P stands for none.
@@ -88,9 +43,8 @@ fn look_at_end(l: Layout, s: &[u64], n: NodeNo, next: Limit, wrong: NodeNo) -> N
     requires { ⌜ n .0 < l .pool ⌝ }
     ensures { λ r. ⌜ r .0 ≡ wrongEnd (shapeOf l) (l .pool) (now (s .entry)) (n .0) (limitOf next) (wrong .0) ⌝ }
 {
-    let height = l.part(s, n, 0);
-    let end = l.part(s, n, 3);
-    let fits = turn::end_fits(height, next, RowID(end));
+    let h = l.header(s, n);
+    let fits = turn::end_fits(h.height, next, h.end_row_id);
     if fits {
         return wrong;
     }
@@ -111,34 +65,6 @@ fn both(l: Layout, nodes: Survey, wrong: NodeNo) -> Surveys
     Surveys {
         nodes,
         ends: Survey::Unsound(wrong),
-    }
-}
-
-// What is next, as the walk keeps it: a flag and a row. An enum is copied with its unused bytes, which made the walk slower.
-pub fn limit(bounded: bool, row: u64) -> Limit
-    ensures { λ r. ⌜ r ≡ limit bounded row ⌝ }
-{
-    if bounded {
-        return Limit::Below(RowID(row));
-    }
-    Limit::Open
-}
-
-fn is_bounded(next: Limit) -> bool
-    ensures { λ r. ⌜ r ≡ bounded next ⌝ }
-{
-    match next {
-        Limit::Open => false,
-        Limit::Below(_) => true,
-    }
-}
-
-pub fn row_of(next: Limit) -> u64
-    ensures { λ r. ⌜ r ≡ rowOf next ⌝ }
-{
-    match next {
-        Limit::Open => 0,
-        Limit::Below(row) => row.0,
     }
 }
 
@@ -184,7 +110,7 @@ fn survey_below(
             if out <= index {
                 return both(l, Survey::Unsound(node), wrong);
             }
-            let next = limit(bounded[at], rows[at]);
+            let next = walk_limit::limit(bounded[at], rows[at]);
             match turn::enter(l, s, node, index, next) {
                 Entered::Bad(n) => {
                     return both(l, Survey::Unsound(n), wrong);
@@ -198,11 +124,11 @@ fn survey_below(
                         node: child,
                         index: 0,
                     };
-                    bounded[depth] = is_bounded(beyond);
-                    rows[depth] = row_of(beyond);
+                    bounded[depth] = walk_limit::is_bounded(beyond);
+                    rows[depth] = walk_limit::row_of(beyond);
                     firsts[depth] = inner;
                     path.depth = depth + 1;
-                    counts = count_node(l, s, child, counts);
+                    counts = tally::count_node(l, s, child, counts);
                     wrong = look_at_end(l, s, child, beyond, wrong);
                 }
             }
@@ -226,7 +152,7 @@ pub fn survey_both(l: Layout, s: &[u64], root: NodeNo) -> Surveys
     };
     let empty = node_root::is_empty_root(l, s, root);
     if empty {
-        let counts = count_node(l, s, root, zero);
+        let counts = tally::count_node(l, s, root, zero);
         return both(l, Survey::Counted(counts), none);
     }
     let h = l.header(s, root);
@@ -236,7 +162,7 @@ pub fn survey_both(l: Layout, s: &[u64], root: NodeNo) -> Surveys
     match node_test::test_node(l, s, root, h.height, h.start_row_id, Limit::Open) {
         NodeTest::Unsound => both(l, Survey::Unsound(root), none),
         NodeTest::Sound(first) => {
-            let counts = count_node(l, s, root, zero);
+            let counts = tally::count_node(l, s, root, zero);
             let wrong = look_at_end(l, s, root, Limit::Open, none);
             survey_below(l, s, root, first, counts, wrong)
         }

@@ -14,8 +14,8 @@ use model::id::RowID;
 use model::path::Path;
 use node::layout::Layout;
 use node_chain;
-use pool::write;
 use node_copy;
+use pool::write;
 
 // Node n loses its first k entries; what is left starts at the end.
 fn trim_node(l: Layout, s: &mut [u64], n: NodeNo, k: u64, end: RowID)

@@ -16,9 +16,9 @@ use Rattle.walk.specs.Left.{bound, Valid, left, rest}
 use Rattle.walk.specs.Turn.{hasChild, enteredOf, entering}
 use Rattle.walk.proofs.Valid.{valid-top, valid-path}
 use Rattle.walk.proofs.Branch.{went, barred, branch}
-use Rattle.survey.specs.Tally.{tally}
+use Rattle.tally.specs.Tally.{tally}
 use Rattle.survey.specs.Ends.{withEnds}
-use Rattle.survey.specs.Limits.{limit, limits}
+use Rattle.walk_limit.specs.Limits.{limit, limits}
 use Rattle.survey.proofs.Going.{less-out, inside, deep, ranged, narrow, less-in}
 use Rattle.survey.proofs.Limits.{many-flags, many-rows, set-limits, next-at}
 use Rattle.survey.proofs.WithEnds.{Both, start-both, both-done, both-out, both-far, both-bad, both-in}

@@ -13,8 +13,8 @@ use Rattle.formed.proofs.Rooted.{empty-of}
 use Rattle.node_test.specs.Test.{nodeTest}
 use Rattle.walk.proofs.Tests.{pass-sound, pass-unsound}
 use Rattle.walk.proofs.Rest.{passes-fits}
-use Rattle.survey.specs.Tally.{noCounts}
-use Rattle.survey.specs.declared.Survey.the-variants.{Counted}
+use Rattle.tally.specs.Tally.{noCounts}
+use Rattle.tally.specs.declared.Survey.the-variants.{Counted}
 use Rattle.survey.proofs.FromRoot.{from-empty, from-high, from-bad, from-good, root-valid}
 use Rattle.survey.proofs.WithEnds.{bad-too, with-none, from-both}
 use Rattle.survey.proofs.survey_both.Statement.{statement}

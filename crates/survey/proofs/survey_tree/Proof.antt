@@ -4,7 +4,7 @@ use mathlib.Core.Path.{_≡_, sym, ap, _∙_}
 use borrow.Author.Tests.{not-true, not-false}
 use Rattle.node.specs.Layout.{shapeOf}
 use Rattle.model.specs.Reading.{rootVisits}
-use Rattle.survey.specs.Tally.{noCounts, tally}
+use Rattle.tally.specs.Tally.{noCounts, tally}
 use Rattle.survey.proofs.survey_tree.Statement.{statement}
 use Rattle.survey.proofs.survey_tree.Tie as tie
 

@@ -1,8 +1,8 @@
 use borrow.Author.Needs.{needs}
 use mathlib.Core.Path.{refl}
-use Rattle.survey.specs.Limits.{limit}
-use Rattle.survey.proofs.limit.Statement.{statement}
-use Rattle.survey.proofs.limit.Tie as tie
+use Rattle.walk_limit.specs.Limits.{limit}
+use Rattle.walk_limit.proofs.limit.Statement.{statement}
+use Rattle.walk_limit.proofs.limit.Tie as tie
 
 returns : tie.Need-returns
 unfolding limit

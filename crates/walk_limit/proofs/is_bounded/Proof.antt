@@ -1,8 +1,8 @@
 use borrow.Author.Needs.{needs}
 use mathlib.Core.Path.{refl}
-use Rattle.survey.specs.Limits.{bounded}
-use Rattle.survey.proofs.is_bounded.Statement.{statement}
-use Rattle.survey.proofs.is_bounded.Tie as tie
+use Rattle.walk_limit.specs.Limits.{bounded}
+use Rattle.walk_limit.proofs.is_bounded.Statement.{statement}
+use Rattle.walk_limit.proofs.is_bounded.Tie as tie
 
 enum-told : tie.Need-enum-told
 enum-told c = search needs

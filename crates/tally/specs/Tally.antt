@@ -4,9 +4,9 @@ use mathlib.Core.List.{List, [], _∷_}
 use lib.Dec.{ltb, eqb}
 use Rattle.model.specs.Words.{Shape, pick, part, height, count}
 use Rattle.model.specs.Reading.{Visit, Enter, Leave, Bad}
-use Rattle.survey.specs.declared.Counts.{Counts}
-use Rattle.survey.specs.declared.Survey.{Survey}
-use Rattle.survey.specs.declared.Survey.the-variants.{Unsound, Counted}
+use Rattle.tally.specs.declared.Counts.{Counts}
+use Rattle.tally.specs.declared.Survey.{Survey}
+use Rattle.tally.specs.declared.Survey.the-variants.{Unsound, Counted}
 
 -- k and some more, up to 2^32, which the counts of a sound tree do not reach
 unfoldable pub more : ℕ → ℕ → ℕ

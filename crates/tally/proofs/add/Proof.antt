@@ -1,8 +1,8 @@
 use borrow.Author.Needs.{needs}
 use borrow.Author.Tests.{lt-ltb, le-ltb}
-use Rattle.survey.specs.Tally.{more}
-use Rattle.survey.proofs.add.Statement.{statement}
-use Rattle.survey.proofs.add.Tie as tie
+use Rattle.tally.specs.Tally.{more}
+use Rattle.tally.proofs.add.Statement.{statement}
+use Rattle.tally.proofs.add.Tie as tie
 
 add-result : tie.Need-add-result
 add-result c = search needs

@@ -1,8 +1,8 @@
 use borrow.Author.Needs.{needs}
 use mathlib.Core.Path.{refl}
-use Rattle.survey.specs.Limits.{rowOf}
-use Rattle.survey.proofs.row_of.Statement.{statement}
-use Rattle.survey.proofs.row_of.Tie as tie
+use Rattle.walk_limit.specs.Limits.{rowOf}
+use Rattle.walk_limit.proofs.row_of.Statement.{statement}
+use Rattle.walk_limit.proofs.row_of.Tie as tie
 
 enum-told : tie.Need-enum-told
 enum-told c = search needs
