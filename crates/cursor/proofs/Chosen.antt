@@ -20,7 +20,7 @@ use Rattle.model.proofs.Place.{all-at, forth, choose-at}
 use Rattle.model.proofs.Sound.{Begins, begins, meets-is, soundly, sound-at, sound-begins, sound-ends, sound-below}
 use Rattle.node_test.proofs.Rows.{Facts, facts, sound-if}
 use Rattle.descend.proofs.Down.{down, ends, root-empty, root-path}
-use Rattle.descend.proofs.Places.{place-at, above-from, place-below}
+use Rattle.node_place.proofs.Places.{place-at, above-from, place-below}
 use Rattle.formed.proofs.Linked.{Meets}
 use Rattle.formed.proofs.Pairs.{all-both}
 use Rattle.cursor.specs.Walking.{LeafAt, leaves, storeLeaves}

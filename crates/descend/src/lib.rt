@@ -1,4 +1,3 @@
 // The path to one leaf: towards a row, or along the right edge.
 
 pub mod path;
-pub mod place;

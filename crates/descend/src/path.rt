@@ -9,10 +9,10 @@ ghost use Rattle.model.specs.Words.{count};
 ghost use Rattle.node.specs.Layout.{Fits, shapeOf};
 ghost use Rattle.node_test.specs.Test.{limitOf};
 ghost use Rattle.descend.specs.Reached.{chooser, reachedOf};
-use crate::place;
 use model::id::NodeNo;
 use model::id::RowID;
 use node::layout::Layout;
+use node_place;
 use node_root;
 use node_test;
 use node_test::Limit;
@@ -52,10 +52,11 @@ fn choose(
     ensures below { λ r. ⌜ r .index < count (shapeOf l) (now (s .entry)) (n .0) ⌝ }
     ensures next { λ r. ⌜ limitOf (r .next) ≡ nextRow (shapeOf l) (now (s .entry)) (n .0) (r .index) (limitOf next) ⌝ }
 {
-    let count = l.part(s, n, 1);
+    let h = l.header(s, n);
+    let count = h.count;
     match toward {
         Toward::Row(q) => {
-            let index = place::place_of(l, s, n, count, q);
+            let index = node_place::place_of(l, s, n, count, q);
             let next = turn::next_row(l, s, n, index, next);
             Chosen { index, next }
         }

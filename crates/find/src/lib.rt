@@ -14,7 +14,6 @@ ghost use Rattle.find.specs.Leaf.{IsLeaf};
 use descend::path;
 use descend::path::Reached;
 use descend::path::Toward;
-use descend::place;
 use model::answer::Refusal;
 use model::answer::RowLocation;
 use model::id::NodeNo;
@@ -22,8 +21,8 @@ use model::id::RowID;
 use node::header;
 use node::header::Opened;
 use node::layout::Layout;
+use node_place;
 use node_root;
-use node_test;
 
 // In a leaf that was reached.
 fn find_in_leaf(l: Layout, s: &[u64], n: NodeNo, row: RowID) -> RowLocation
@@ -31,15 +30,14 @@ fn find_in_leaf(l: Layout, s: &[u64], n: NodeNo, row: RowID) -> RowLocation
     requires { ⌜ IsLeaf (shapeOf l) (l .pool) (now s) (n .0) ⌝ }
     ensures { λ r. ⌜ ((b : Limit) → location r ≡ foundIn (shapeOf l) (now (s .entry)) (row .0) (leaf (n .0) b)) ⌝ }
 {
-    let count = l.part(s, n, 1);
-    if count == 0 {
+    let h = l.header(s, n);
+    if h.is_empty() {
         return RowLocation::NotFound;
     }
-    let end = l.part(s, n, 3);
-    if end <= row.0 {
+    if h.end_row_id.0 <= row.0 {
         return RowLocation::NotFound;
     }
-    let i = place::place_of(l, s, n, count, row);
+    let i = node_place::place_of(l, s, n, h.count, row);
     RowLocation::RowPage(l.page(s, n, i))
 }
 
@@ -49,8 +47,8 @@ fn find_in_tree(l: Layout, s: &[u64], root: NodeNo, row: RowID) -> RowLocation
     requires { ⌜ root .0 < l .pool ⌝ }
     ensures { λ r. ⌜ location r ≡ findInTree (shapeOf l) (l .pool) (now (s .entry)) (root .0) (row .0) ⌝ }
 {
-    let start = l.part(s, root, 2);
-    if row.0 < start {
+    let h = l.header(s, root);
+    if row.0 < h.start_row_id.0 {
         let good = node_root::is_sound_root(l, s, root);
         if !good {
             return RowLocation::Refused(Refusal::Unsound(root));

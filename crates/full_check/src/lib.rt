@@ -31,11 +31,11 @@ fn follow_chain(l: Layout, s: &[u64], head: NodeNo, k: u64) -> bool
         if l.pool <= n.0 {
             return false;
         }
-        let mark = l.part(s, n, 0);
-        if mark != RowPageIndexNodeHeader::FREE_MARK {
+        let h = l.header(s, n);
+        if !h.is_free() {
             return false;
         }
-        n = NodeNo(l.part(s, n, 1));
+        n = NodeNo(h.count);
         more -= 1;
     }
     n.0 == l.pool

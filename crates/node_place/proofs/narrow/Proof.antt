@@ -5,9 +5,9 @@ use mathlib.Core.Logic.{⊎-elim, _⊎_, inl, inr}
 use native.Mathlib.Omega.{arith}
 use Rattle.node.specs.Layout.{shapeOf}
 use Rattle.model.specs.Words.{part, row}
-use Rattle.descend.proofs.Places.{Looked, moved, kept, found, place-below}
-use Rattle.descend.proofs.place.narrow.Statement.{statement}
-use Rattle.descend.proofs.place.narrow.Tie as tie
+use Rattle.node_place.proofs.Places.{Looked, moved, kept, found, place-below}
+use Rattle.node_place.proofs.narrow.Statement.{statement}
+use Rattle.node_place.proofs.narrow.Tie as tie
 
 abbrev Inv-loop : tie.InvT-loop
 Inv-loop l s n count q low width step end place₀ i₀ place i =

@@ -14,7 +14,7 @@ use Rattle.model.specs.Reading.{lastNotAbove}
 use Rattle.model.proofs.Tests.{by-test, holds, is-true}
 use Rattle.model.proofs.Sound.{rises}
 use Rattle.model.proofs.Place.{risen, last-at}
-use Rattle.descend.specs.Place.{LiesIn}
+use Rattle.node_place.specs.Place.{LiesIn}
 use Rattle.node_test.proofs.Rows.{yes, rest, rise-all}
 
 module _ (C : Shape) (w : List ℕ) (n k : ℕ) (some : 1 ≤ k) (up : T (rising (pairsFrom C w (λ (x : ℕ). x) n 0 k))) where

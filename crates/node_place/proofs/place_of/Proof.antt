@@ -3,9 +3,9 @@ use Prim.Native.Nat.{ℕ, _+_, _-_, _<_, _≤_}
 use mathlib.Core.Path.{_≡_, refl, sym, ap, _∙_, subst}
 use native.Mathlib.Omega.{arith}
 use Rattle.node.specs.Layout.{shapeOf}
-use Rattle.descend.proofs.Places.{lies-in-all, begins}
-use Rattle.descend.proofs.place.place_of.Statement.{statement}
-use Rattle.descend.proofs.place.place_of.Tie as tie
+use Rattle.node_place.proofs.Places.{lies-in-all, begins}
+use Rattle.node_place.proofs.place_of.Statement.{statement}
+use Rattle.node_place.proofs.place_of.Tie as tie
 
 narrow-requires : tie.Need-narrow-requires
 narrow-requires c κs =

@@ -6,7 +6,7 @@ ghost use lib.Dec.{T};
 ghost use Rattle.model.specs.Tree.{pairsFrom, rising};
 ghost use Rattle.model.specs.Reading.{lastNotAbove};
 ghost use Rattle.node.specs.Layout.{Fits, shapeOf};
-ghost use Rattle.descend.specs.Place.{LiesIn};
+ghost use Rattle.node_place.specs.Place.{LiesIn};
 use model::id::NodeNo;
 use model::id::RowID;
 use node::layout::Layout;
