@@ -31,7 +31,7 @@ returns-2 c b = let a = c .before .before .before .before .before .before .befor
 place-of-requires : tie.Need-place-of-requires
 place-of-requires c κs =
     let a = c .before .before .before .before .before .before .before .args in
-    (c .before .before .before .before .before .before .before .pre .0, (c .before .before .before .before .before .before .before .pre .1 .inside, omega (arith, (eqb-false (count (shapeOf (a .l)) (a .s .now) (a .n .0)) 0 (sym (c .before .before .before .before .is-empty .ensures ∙ ap (λ (h : RowPageIndexNodeHeader). eqb (h .count) 0) (c .before .before .before .before .before .header .ensures)) ∙ c .before .before .before .if1 .left))), omega (arith, c .before .before .before .before .before .before .before .pre .1 .many, (ap (λ (h : RowPageIndexNodeHeader). h .count) (c .before .before .before .before .before .header .ensures))), subst (λ (k : ℕ). T (rising (pairsFrom (shapeOf (a .l)) (a .s .now) (λ (x : ℕ). x) (a .n .0) 0 k))) (sym ((ap (λ (h : RowPageIndexNodeHeader). h .count) (c .before .before .before .before .before .header .ensures)))) (c .before .before .before .before .before .before .before .pre .1 .rises)))
+    (c .before .before .before .before .before .before .before .pre .0, (c .before .before .before .before .before .before .before .pre .1 .inside, omega (arith, (eqb-false (count (shapeOf (a .l)) (a .s .now) (a .n .0)) 0 (sym (c .before .before .before .before .is-empty .ensures ∙ ap (λ (h : RowPageIndexNodeHeader). eqb (h .count) 0) (c .before .before .before .before .before .header .ensures)) ∙ c .before .before .before .if1 .left)), (ap (λ (h : RowPageIndexNodeHeader). h .count) (c .before .before .before .before .before .header .ensures))), omega (arith, c .before .before .before .before .before .before .before .pre .1 .many, (ap (λ (h : RowPageIndexNodeHeader). h .count) (c .before .before .before .before .before .header .ensures))), subst (λ (k : ℕ). T (rising (pairsFrom (shapeOf (a .l)) (a .s .now) (λ (x : ℕ). x) (a .n .0) 0 k))) (sym ((ap (λ (h : RowPageIndexNodeHeader). h .count) (c .before .before .before .before .before .header .ensures)))) (c .before .before .before .before .before .before .before .pre .1 .rises)))
 
 page-requires : tie.Need-page-requires
 page-requires c κs =
