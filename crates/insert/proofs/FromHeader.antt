@@ -12,8 +12,8 @@ use Rattle.node.specs.Layout.{shapeOf, Fits, storeHeader, opened}
 use Rattle.node.specs.declared.header.StoreHeader.{StoreHeader}
 use Rattle.node.specs.declared.header.Opened.the-variants.{Open as Opens, Refused}
 use Rattle.node.proofs.Opened.{is-open, is-refused, goes-on, opens-fits}
-use Rattle.insert.specs.Room.{Ready}
-use Rattle.insert.proofs.RightEdge.{ready}
+use Rattle.append_room.specs.Room.{Ready}
+use Rattle.append_room.proofs.RightEdge.{ready}
 
 -- the right leaf of an open store
 abbrev pub right : List ℕ → StoreHeader → Reached

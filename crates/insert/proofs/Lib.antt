@@ -1,4 +1,3 @@
-pub mod RightEdge
 pub mod Writing
 pub mod FromHeader
 pub mod Unique

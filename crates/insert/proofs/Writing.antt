@@ -19,75 +19,16 @@ use Rattle.model.specs.declared.answer.Refusal.the-variants.{RowLimit, HeightLi
 use Rattle.model.proofs.Tests.{and-l, and-r, by-test, holds, is-true}
 use Rattle.node_chain.specs.Chain.{listed}
 use Rattle.node_chain.proofs.Links.{link}
-use Rattle.insert.specs.declared.limits.Ruling.{Ruling}
-use Rattle.insert.specs.declared.limits.Ruling.the-variants.{Fine, Refused}
-use Rattle.grow.specs.Inside.{Inside, numberAt}
-use Rattle.insert.specs.Placed.{checked, placed}
-
-never : {A : Type 0} (r : Refusal) → Refused r ≡ Fine → A
-never r e = let z : _≡_ {A = ℕ} 0 1 = cc in absurd (omega arith)
+use Rattle.append_limits.specs.declared.Ruling.{Ruling}
+use Rattle.append_limits.specs.declared.Ruling.the-variants.{Fine, Refused}
+use Rattle.fresh_path.specs.Inside.{Inside, numberAt}
+use Rattle.insert.specs.Placed.{placed}
+use Rattle.append_limits.specs.Limits.{checked}
 
 -- a refusal leaves the words w
 abbrev ruled : List ℕ → Outcome → Ruling → Outcome
 ruled w o Fine = o
 ruled w o (Refused r) = record { answer = refusal r; words = w }
-
--- The tests ----------------------------------------------------------------------------------------------
-
-module _ (k s h m free : ℕ) where
-  pub no-rows : k ≡ 0 → checked k s h m free ≡ Refused RowLimit
-  unfolding checked
-  no-rows z = rw (eq-eqb k 0 z)
-
-  module _ (a : k ≡ 0 → ⊥) where
-    pub past-limit : rowLimit < s + k → checked k s h m free ≡ Refused RowLimit
-    unfolding checked
-    past-limit b = rw (ne-eqb k 0 a, lt-ltb rowLimit (s + k) b)
-
-    module _ (b : s + k ≤ rowLimit) where
-      pub too-high : h < m → h ≡ maxHeight → checked k s h m free ≡ Refused HeightLimit
-      unfolding checked
-      too-high c d = rw (ne-eqb k 0 a, le-ltb rowLimit (s + k) b, lt-ltb h m c, eq-eqb h maxHeight d)
-
-      pub too-few : (ltb h m && eqb h maxHeight) ≡ false → free < m → checked k s h m free ≡ Refused (NoRoom m)
-      unfolding checked
-      too-few c d = rw (ne-eqb k 0 a, le-ltb rowLimit (s + k) b, c, lt-ltb free m d)
-
-      pub all-fine : (ltb h m && eqb h maxHeight) ≡ false → m ≤ free → checked k s h m free ≡ Fine
-      unfolding checked
-      all-fine c d = rw (ne-eqb k 0 a, le-ltb rowLimit (s + k) b, c, le-ltb free m d)
-
-  pub record Passes : Type 0 where
-    pub most : s + k ≤ rowLimit
-    pub low : h < m → h ≢ maxHeight
-    pub enough : m ≤ free
-
-  pub passes : checked k s h m free ≡ Fine → Passes
-  unfolding checked
-  passes e =
-      by-test (eqb k 0 || ltb rowLimit (s + k))
-      (λ t. never RowLimit (rw t at e))
-      (λ t. by-test (ltb h m && eqb h maxHeight)
-      (λ u. never HeightLimit (rw (t, u) at e))
-      (λ u. by-test (ltb free m)
-      (λ v. never (NoRoom m) (rw (t, u, v) at e))
-      (λ v. record {
-        most = by-test (ltb rowLimit (s + k)) (λ x. absurd (not-or t x)) (λ x. ltb-false rowLimit (s + k) x);
-        low = λ l z. absurd (not-and (lt-ltb h m l) (eq-eqb h maxHeight z) u);
-        enough = ltb-false free m v;
-      })))
-    where
-      not-or : (eqb k 0 || ltb rowLimit (s + k)) ≡ false → ltb rowLimit (s + k) ≡ true → ⊥
-      not-or t x = by-test (eqb k 0) (λ y. let z : true ≡ false = rw y at t in false≢true (sym z)) (λ y. let z : true ≡ false = rw (y, x) at t in false≢true (sym z))
-
-      not-and : ltb h m ≡ true → eqb h maxHeight ≡ true → (ltb h m && eqb h maxHeight) ≡ false → ⊥
-      not-and l z u = let y : true ≡ false = rw (l, z) at u in false≢true (sym y)
-
-pub not-highest : (h m : ℕ) → h < m → (h ≡ maxHeight → ⊥) → (ltb h m && eqb h maxHeight) ≡ false
-not-highest h m a b = rw (lt-ltb h m a, ne-eqb h maxHeight b)
-
-pub no-split : (h m : ℕ) → m ≤ h → (ltb h m && eqb h maxHeight) ≡ false
-no-split h m a = rw (le-ltb h m a)
 
 module _ (C : Shape) (P : ℕ) (w : List ℕ) (n k x l : ℕ) (b : Limit) where
   append-ruled : appendTo C P w n k x (leaf l b) ≡ ruled w (placed C P w n (appendStart C w l) (appendStart C w l + k) x (room C w n)) (checked k (appendStart C w l) (height C w n) (room C w n .needed) (freeCount w))

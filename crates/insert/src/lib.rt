@@ -11,15 +11,15 @@ ghost use Rattle.model.specs.Refusals.{inserted};
 ghost use Rattle.model.specs.Append.{appendTo, hang, insertRowPage, splitRoot};
 ghost use Rattle.node.specs.Layout.{Fits, shapeOf};
 ghost use Rattle.node_chain.specs.Chain.{listed};
-ghost use Rattle.grow.specs.Inside.{Inside, numberAt};
-ghost use Rattle.insert.specs.Room.{Ready, Usable, roomOf};
+ghost use Rattle.fresh_path.specs.Inside.{Inside, numberAt};
+ghost use Rattle.append_room.specs.Room.{Ready, Usable, roomOf};
 ghost use Rattle.insert.specs.Placed.{placed};
-use crate::limits::Ruling;
-use crate::room::Room;
+use append_limits::Ruling;
+use append_room::Room;
 use descend::path;
 use descend::path::Reached;
 use descend::path::Toward;
-use grow::NewPage;
+use fresh_path::NewPage;
 use model::answer::Inserted;
 use model::answer::Refusal;
 use model::answer::RowPageIndexInsert;
@@ -32,8 +32,6 @@ use node::header::StoreHeader;
 use node::layout::Layout;
 use node_chain;
 
-pub mod limits;
-pub mod room;
 
 // The page goes to the node with room; where none has room, the root splits.
 fn grow_tree(l: Layout, s: &mut [u64], root: NodeNo, room: Room, new: NewPage, nodes: [NodeNo; 32])
@@ -86,10 +84,10 @@ fn insert_after(s: &mut [u64], h: StoreHeader, last: NodeNo, count: u64, page: P
     ensures words { λ r. ⌜ now (s .exit) ≡ appendTo (shapeOf (h .layout)) (h .layout .pool) (now (s .entry)) (h .root .0) count (page .0) (leaf (last .0) Open) .words ⌝ }
 {
     let l = h.layout;
-    let start = room::range_start(l, &s[..], last);
-    let free = room::find_room(l, &s[..], h.root);
+    let start = append_room::range_start(l, &s[..], last);
+    let free = append_room::find_room(l, &s[..], h.root);
     let height = l.part(&s[..], h.root, 0);
-    match limits::test_limits(start, count, height, free.needed, h.free_count) {
+    match append_limits::test_limits(start, count, height, free.needed, h.free_count) {
         Ruling::Refused(r) => Inserted::Refused(r),
         Ruling::Fine => {
             let end = RowID(start.0 + count);

@@ -3,7 +3,7 @@ use native.Mathlib.Omega.{arith}
 use mathlib.Core.Path.{sym, _∙_}
 use Rattle.model.proofs.Words.{header-at}
 use Rattle.model.proofs.Writes.{added-length}
-use Rattle.grow.proofs.NewPaths.{hang-page, hang-path}
+use Rattle.fresh_path.proofs.NewPaths.{hang-page, hang-path}
 use Rattle.grow.proofs.hang.Statement.{statement}
 use Rattle.grow.proofs.hang.Tie as tie
 

@@ -3,7 +3,7 @@ use native.Mathlib.Omega.{arith}
 use mathlib.Core.Path.{sym, _∙_}
 use Rattle.model.proofs.Words.{put-header, header-at}
 use Rattle.model.proofs.Writes.{copied-length}
-use Rattle.grow.proofs.NewPaths.{inside-at, inside-rest, split-is, split-high, raised-header}
+use Rattle.fresh_path.proofs.NewPaths.{inside-at, inside-rest, split-is, split-high, raised-header}
 use Rattle.grow.proofs.split_root.Statement.{statement}
 use Rattle.grow.proofs.split_root.Tie as tie
 

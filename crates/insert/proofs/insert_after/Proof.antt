@@ -6,9 +6,10 @@ use Rattle.model.specs.Words.{part}
 use Rattle.model.specs.Tree.{Open}
 use Rattle.model.specs.Refusals.{Outcome}
 use Rattle.model.specs.Append.{Room, room}
-use Rattle.insert.specs.Room.{roomOf, Usable}
-use Rattle.insert.proofs.RightEdge.{usable}
-use Rattle.insert.proofs.Writing.{append-refused, append-fine, passes}
+use Rattle.append_room.specs.Room.{roomOf, Usable}
+use Rattle.append_room.proofs.RightEdge.{usable}
+use Rattle.insert.proofs.Writing.{append-refused, append-fine}
+use Rattle.append_limits.proofs.Limits.{passes}
 use Rattle.insert.proofs.insert_after.Statement.{statement}
 use Rattle.insert.proofs.insert_after.Tie as tie
 

@@ -3,7 +3,7 @@ use mathlib.Core.Path.{sym, ap, _∙_}
 use borrow.Author.Tests.{not-true, not-false}
 use Rattle.node.specs.Layout.{shapeOf}
 use Rattle.model.specs.Refusals.{Outcome}
-use Rattle.insert.specs.Room.{roomOf}
+use Rattle.append_room.specs.Room.{roomOf}
 use Rattle.insert.proofs.Writing.{placed-bad, placed-good, listed-inside, head-apart}
 use Rattle.insert.proofs.place_page.Statement.{statement}
 use Rattle.insert.proofs.place_page.Tie as tie
