@@ -36,7 +36,8 @@ pub fn find_room(l: Layout, s: &[u64], root: NodeNo) -> Room
     requires { ⌜ (height (shapeOf l) (now s) (root .0) ≤ maxHeight) × Edge (shapeOf l) (l .pool) (now s) (height (shapeOf l) (now s) (root .0)) (root .0) ⌝ }
     ensures { λ r. ⌜ roomOf r ≡ room (shapeOf l) (now (s .entry)) (root .0) ⌝ }
 {
-    let height = l.part(s, root, 0);
+    let head = l.header(s, root);
+    let height = head.height;
     let mut n = root;
     let mut h = height;
     let mut best = Room {

@@ -52,10 +52,12 @@ pub fn find_copies(l: Layout, s: &[u64], root: NodeNo, edge: Path) -> Copies
     let depth = edge.depth;
     let mut nodes = [NodeNo(0); 32];
     let mut n = root;
-    let mut h = l.part(s, root, 0);
+    let head = l.header(s, root);
+    let mut h = head.height;
     let mut i: usize = 0;
     while 0 < h {
-        let count = l.part(s, n, 1);
+        let top = l.header(s, n);
+        let count = top.count;
         let p = edge.positions[i];
         let index = p.index;
         let lost = gone(depth, i, index);

@@ -41,11 +41,11 @@ fn copy_leaf(l: Layout, s: &[u64], n: NodeNo, pages: &mut [u64], at: usize) -> u
     ensures after { λ r. ⌜ r ≡ at + length (pagesAt (shapeOf l) (now (s .entry)) (n .0)) ⌝ }
     ensures list { λ r. ⌜ now (pages .exit) ≡ fill (now (pages .entry)) at (pagesAt (shapeOf l) (now (s .entry)) (n .0)) ⌝ }
 {
-    let height = l.part(s, n, 0);
-    if height != 0 {
+    let h = l.header(s, n);
+    if !h.is_leaf() {
         return at;
     }
-    let count = l.part(s, n, 1);
+    let count = h.count;
     let mut place = at;
     let mut i: u64 = 0;
     while i < count {
@@ -117,8 +117,8 @@ fn starts_below(l: Layout, s: &[u64], root: NodeNo, entries: u64, pivot: RowID) 
     if entries == 0 {
         return false;
     }
-    let start = l.part(s, root, 2);
-    start < pivot.0
+    let h = l.header(s, root);
+    h.start_row_id.0 < pivot.0
 }
 
 // A store whose nodes are all sound, with the counts of its tree.
@@ -140,8 +140,8 @@ fn destroy_sound(
     let wanted = counts.entries;
     let low = starts_below(l, &s[..], root, wanted, pivot);
     if low {
-        let start = l.part(&s[..], root, 2);
-        return Destroyed::Refused(Refusal::RowBelowPivot(RowID(start)));
+        let top = l.header(&s[..], root);
+        return Destroyed::Refused(Refusal::RowBelowPivot(top.start_row_id));
     }
     if (pages.len() as u64) < wanted {
         return Destroyed::Refused(Refusal::ListTooShort(wanted));

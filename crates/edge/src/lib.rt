@@ -30,8 +30,8 @@ pub fn find_edge(l: Layout, s: &[u64], path: Path, used: u64) -> Path
         let top = edge.positions[above];
         let node = top.node;
         let index = top.index;
-        let count = l.part(s, node, 1);
-        if index < count {
+        let h = l.header(s, node);
+        if index < h.count {
             return edge;
         }
         edge.depth = above;

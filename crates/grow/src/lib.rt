@@ -8,6 +8,8 @@ ghost use Rattle.model.specs.Append.{hang, raised, splitRoot};
 ghost use Rattle.node.specs.Layout.{Fits, shapeOf};
 ghost use Rattle.node_chain.specs.Chain.{listed};
 ghost use Rattle.fresh_path.specs.Inside.{Inside, numberAt};
+use fresh_path;
+use fresh_path::NewPage;
 use model::id::NodeNo;
 use model::id::RowID;
 use model::node::RowPageIndexNodeHeader;
@@ -15,8 +17,6 @@ use node::layout::Layout;
 use node_copy;
 use node_pairs;
 use pool::write;
-use fresh_path;
-use fresh_path::NewPage;
 
 // One more entry in node n: the page, where n is the right leaf, or a path of k nodes over it.
 pub fn hang(l: Layout, s: &mut [u64], n: NodeNo, new: NewPage, nodes: [NodeNo; 32], k: usize)

@@ -32,7 +32,6 @@ use node::header::StoreHeader;
 use node::layout::Layout;
 use node_chain;
 
-
 // The page goes to the node with room; where none has room, the root splits.
 fn grow_tree(l: Layout, s: &mut [u64], root: NodeNo, room: Room, new: NewPage, nodes: [NodeNo; 32])
     requires { ⌜ Fits l (now s) ⌝ }
@@ -41,8 +40,8 @@ fn grow_tree(l: Layout, s: &mut [u64], root: NodeNo, room: Room, new: NewPage, n
     ensures { λ _. ⌜ now (s .exit) ≡ pick (leb (room .needed) (height (shapeOf l) (now (s .entry)) (root .0))) (hang (shapeOf l) (now (s .entry)) (room .node .0) (new .start .0) (new .end .0) (new .page .0) (listed nodes 0 (room .needed))) (splitRoot (shapeOf l) (now (s .entry)) (root .0) (new .start .0) (new .end .0) (new .page .0) (listed nodes 0 (room .needed))) ⌝ }
 {
     let k = room.needed as usize;
-    let height = l.part(&s[..], root, 0);
-    if room.needed <= height {
+    let h = l.header(&s[..], root);
+    if room.needed <= h.height {
         grow::hang(l, s, room.node, new, nodes, k);
         return;
     }
@@ -86,8 +85,8 @@ fn insert_after(s: &mut [u64], h: StoreHeader, last: NodeNo, count: u64, page: P
     let l = h.layout;
     let start = append_room::range_start(l, &s[..], last);
     let free = append_room::find_room(l, &s[..], h.root);
-    let height = l.part(&s[..], h.root, 0);
-    match append_limits::test_limits(start, count, height, free.needed, h.free_count) {
+    let top = l.header(&s[..], h.root);
+    match append_limits::test_limits(start, count, top.height, free.needed, h.free_count) {
         Ruling::Refused(r) => Inserted::Refused(r),
         Ruling::Fine => {
             let end = RowID(start.0 + count);

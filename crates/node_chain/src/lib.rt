@@ -105,7 +105,8 @@ pub fn read_chain(l: Layout, s: &[u64], head: NodeNo, k: usize) -> Wanted
             };
         }
         nodes[i] = n;
-        n = NodeNo(l.part(s, n, 1));
+        let link = l.header(s, n);
+        n = NodeNo(link.count);
         i += 1;
     }
     Wanted {

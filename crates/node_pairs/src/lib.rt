@@ -45,7 +45,8 @@ pub fn add_page(l: Layout, s: &mut [u64], n: NodeNo, row: RowID, page: PageID)
     requires { ⌜ (n .0 < l .pool) × (count (shapeOf l) (now s) (n .0) < l .capacity) ⌝ }
     ensures { λ _. ⌜ now (s .exit) ≡ added (shapeOf l) (now (s .entry)) (n .0) (row .0) (page .0) ⌝ }
 {
-    let k = l.part(&s[..], n, 1);
+    let h = l.header(&s[..], n);
+    let k = h.count;
     put_page(l, s, n, k, row, page);
     write::put(l, s, n, 1, k + 1);
 }
@@ -56,7 +57,8 @@ pub fn add_child(l: Layout, s: &mut [u64], n: NodeNo, row: RowID, child: NodeNo)
     requires { ⌜ (n .0 < l .pool) × (count (shapeOf l) (now s) (n .0) < l .capacity) ⌝ }
     ensures { λ _. ⌜ now (s .exit) ≡ added (shapeOf l) (now (s .entry)) (n .0) (row .0) (child .0) ⌝ }
 {
-    let k = l.part(&s[..], n, 1);
+    let h = l.header(&s[..], n);
+    let k = h.count;
     put_child(l, s, n, k, row, child);
     write::put(l, s, n, 1, k + 1);
 }

@@ -143,9 +143,9 @@ pub fn test_node(l: Layout, s: &[u64], n: NodeNo, height: u64, row: RowID, next:
     if !good {
         return NodeTest::Unsound;
     }
-    let count = l.part(s, n, 1);
+    let h = l.header(s, n);
     if height == 0 {
-        return NodeTest::Sound(count);
+        return NodeTest::Sound(h.count);
     }
-    NodeTest::Sound(first_out(l, s, n, count))
+    NodeTest::Sound(first_out(l, s, n, h.count))
 }

@@ -52,11 +52,11 @@ fn entry_end(l: Layout, s: &[u64], n: NodeNo, i: u64) -> RowID
     requires { ⌜ (n .0 < l .pool) × (i < count (shapeOf l) (now s) (n .0)) × (count (shapeOf l) (now s) (n .0) ≤ l .capacity) ⌝ }
     ensures { λ r. ⌜ r .0 ≡ entryEnd (shapeOf l) (now (s .entry)) (n .0) i ⌝ }
 {
-    let count = l.part(s, n, 1);
-    if i + 1 < count {
+    let h = l.header(s, n);
+    if i + 1 < h.count {
         return l.row(s, n, i + 1);
     }
-    RowID(l.part(s, n, 3))
+    h.end_row_id
 }
 
 // The entries of node n, where it is a leaf, against the ids from this place on.
@@ -73,11 +73,11 @@ fn scan_node(
     requires { ⌜ (n .0 < l .pool) × (count (shapeOf l) (now s) (n .0) ≤ l .capacity) ⌝ }
     ensures { λ r. ⌜ progressOf (now (ids .entry)) r ≡ pick (eqb (height (shapeOf l) (now (s .entry)) (n .0)) 0) (scanLeaf (shapeOf l) (now (s .entry)) (end .0) (n .0) 0 (count (shapeOf l) (now (s .entry)) (n .0)) (on (drop place (now (ids .entry))) place (reached .0))) (on (drop place (now (ids .entry))) place (reached .0)) ⌝ }
 {
-    let height = l.part(s, n, 0);
-    if height != 0 {
+    let h = l.header(s, n);
+    if !h.is_leaf() {
         return Progress::On(place, reached);
     }
-    let count = l.part(s, n, 1);
+    let count = h.count;
     let mut at = place;
     let mut to = reached;
     let mut i: u64 = 0;

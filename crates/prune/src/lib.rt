@@ -107,8 +107,8 @@ fn prune_edge(h: StoreHeader, s: &mut [u64], end: RowID, k: u64, edge: Path) -> 
     let last = edge.positions[at];
     let node = last.node;
     let index = last.index;
-    let count = h.layout.part(&s[..], node, 1);
-    if count <= index {
+    let top = h.layout.header(&s[..], node);
+    if top.count <= index {
         return prune_all(h, s, end, k, edge);
     }
     prune_some(h, s, end, k, edge)
@@ -170,9 +170,10 @@ fn prune_open(h: StoreHeader, s: &mut [u64], start: RowID, end: RowID, ids: &[u6
     if !empty {
         return prune_filled(h, s, start, end, ids);
     }
-    let first = h.layout.part(&s[..], h.root, 2);
-    if start.0 != first {
-        return Pruned::Refused(Refusal::StartDiffers(RowID(first)));
+    let top = h.layout.header(&s[..], h.root);
+    let first = top.start_row_id;
+    if start.0 != first.0 {
+        return Pruned::Refused(Refusal::StartDiffers(first));
     }
     Pruned::Refused(Refusal::ListTooLong(0))
 }

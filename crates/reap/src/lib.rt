@@ -22,8 +22,8 @@ fn free_children(l: Layout, s: &mut [u64], n: NodeNo, k: u64)
     requires { ⌜ Ready (shapeOf l) (l .pool) (now s) (height (shapeOf l) (now s) (n .0)) (n .0) 0 k ⌝ }
     ensures { λ _. ⌜ now (s .exit) ≡ freeAll (shapeOf l) (now (s .entry)) (firstNodes (shapeOf l) (now (s .entry)) (height (shapeOf l) (now (s .entry)) (n .0)) (n .0) k) ⌝ }
 {
-    let height = l.part(&s[..], n, 0);
-    if height == 0 {
+    let h = l.header(&s[..], n);
+    if h.is_leaf() {
         return;
     }
     let mut i: u64 = 0;
@@ -100,8 +100,8 @@ fn count_children(l: Layout, s: &[u64], n: NodeNo, k: u64) -> u64
     ensures is { λ r. ⌜ r ≡ length (nodesAt (shapeOf l) (now (s .entry)) (height (shapeOf l) (now (s .entry)) (n .0)) (n .0) 0 k) ⌝ }
     ensures low { λ r. ⌜ r ≤ k * 65535 ⌝ }
 {
-    let height = l.part(s, n, 0);
-    if height == 0 {
+    let h = l.header(s, n);
+    if h.is_leaf() {
         return 0;
     }
     let mut sum: u64 = 0;

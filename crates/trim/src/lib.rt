@@ -23,8 +23,8 @@ fn trim_node(l: Layout, s: &mut [u64], n: NodeNo, k: u64, end: RowID)
     requires { ⌜ (n .0 < l .pool) × (k ≤ count (shapeOf l) (now s) (n .0)) × (count (shapeOf l) (now s) (n .0) ≤ l .capacity) ⌝ }
     ensures { λ _. ⌜ now (s .exit) ≡ trimmed (shapeOf l) (now (s .entry)) (n .0) k (end .0) ⌝ }
 {
-    let count = l.part(&s[..], n, 1);
-    let left = count - k;
+    let h = l.header(&s[..], n);
+    let left = h.count - k;
     node_copy::move_front(l, s, n, k, left);
     write::put(l, s, n, 1, left);
     write::put(l, s, n, 2, end.0);

@@ -21,19 +21,19 @@ Inv-loop l s height n₀ h₀ best₀ n h best =
 abbrev μ-loop : tie.MeasureT-loop
 μ-loop l s height n₀ h₀ best₀ n h best = h
 
-part-requires : tie.Need-part-requires Inv-loop μ-loop
-part-requires c κs =
-    let a = c .before .args in
-    (c .before .pre .0, (edge-inside (shapeOf (a .l)) (a .l .pool) (a .s .now) _ _ (c .before .pre .1 .1), omega arith))
-
-add-t12 : tie.Need-add-t12 Inv-loop μ-loop
-add-t12 c = omega (arith, c .part .ensures, c .before .before .pre .1 .0)
-
-loop-holds : tie.Need-loop-holds Inv-loop μ-loop
-loop-holds c = (omega (arith, c .part .ensures, c .before .before .pre .1 .0), rw (c .part .ensures) (c .before .before .pre .1 .1), room-at _ _ _ _ (c .part .ensures))
-
 header-requires : tie.Need-header-requires Inv-loop μ-loop
 header-requires c κs =
+    let a = c .before .args in
+    (c .before .pre .0, edge-inside (shapeOf (a .l)) (a .l .pool) (a .s .now) _ _ (c .before .pre .1 .1))
+
+add-t13 : tie.Need-add-t13 Inv-loop μ-loop
+add-t13 c = omega (arith, (ap (λ (h : RowPageIndexNodeHeader). h .height) (c .header .ensures)), c .before .before .pre .1 .0)
+
+loop-holds : tie.Need-loop-holds Inv-loop μ-loop
+loop-holds c = (omega (arith, (ap (λ (h : RowPageIndexNodeHeader). h .height) (c .header .ensures)), c .before .before .pre .1 .0), rw ((ap (λ (h : RowPageIndexNodeHeader). h .height) (c .header .ensures))) (c .before .before .pre .1 .1), room-at _ _ _ _ ((ap (λ (h : RowPageIndexNodeHeader). h .height) (c .header .ensures))))
+
+header-requires-2 : tie.Need-header-requires-2 Inv-loop μ-loop
+header-requires-2 c κs =
     let a = c .before .before .before .before .args in
     (c .before .before .before .before .pre .0, edge-inside (shapeOf (a .l)) (a .l .pool) (a .s .now) _ _ (c .before .loop .inv .1))
 
@@ -43,13 +43,13 @@ is-full-requires c κs = search needs
 sub-child : tie.Need-sub-child Inv-loop μ-loop
 sub-child c =
     let a = c .before .before .before .before .before .before .before .before .args in
-    let e = ap (λ (x : RowPageIndexNodeHeader). x .count) (c .before .before .before .header .ensures) in
+    let e = ap (λ (x : RowPageIndexNodeHeader). x .count) (c .before .before .before .header2 .ensures) in
     omega (arith, e, edge-turn (shapeOf (a .l)) (a .l .pool) (a .s .now) _ _ (c .before .before .before .before .before .loop .inv .1) (omega (arith, c .before .before .before .before .loop-test .taken)) .0)
 
 child-requires : tie.Need-child-requires Inv-loop μ-loop
 child-requires c κs =
     let a = c .before .before .before .before .before .before .before .before .args in
-    let e = ap (λ (x : RowPageIndexNodeHeader). x .count) (c .before .before .before .header .ensures) in
+    let e = ap (λ (x : RowPageIndexNodeHeader). x .count) (c .before .before .before .header2 .ensures) in
     let q = edge-turn (shapeOf (a .l)) (a .l .pool) (a .s .now) _ _ (c .before .before .before .before .before .loop .inv .1) (omega (arith, c .before .before .before .before .loop-test .taken)) in
     (c .before .before .before .before .before .before .before .before .pre .0, (edge-inside (shapeOf (a .l)) (a .l .pool) (a .s .now) _ _ (c .before .before .before .before .before .loop .inv .1), omega (arith, e, q .0, q .1)))
 
@@ -65,7 +65,7 @@ loop-again c =
     let C = shapeOf (a .l) in
     let w = a .s .now in
     let n = c .before .before .before .before .before .before .loop .n .0 in
-    let e = ap (λ (x : RowPageIndexNodeHeader). x .count) (c .before .before .before .before .header .ensures) in
+    let e = ap (λ (x : RowPageIndexNodeHeader). x .count) (c .before .before .before .before .header2 .ensures) in
     let f : c .before .before .before .is-full .result ≡ leb (C .cap) (count C w n) = c .before .before .before .is-full .ensures ∙ ap (leb (C .cap)) e in
     let up : 0 < c .before .before .before .before .before .before .loop .h = c .before .before .before .before .before .loop-test .taken in
     let q = edge-turn C (a .l .pool) w _ _ (c .before .before .before .before .before .before .loop .inv .1) up in (
@@ -77,8 +77,8 @@ loop-again c =
           (c .before .before .if1 .came),
     )
 
-header-requires-2 : tie.Need-header-requires-2 Inv-loop μ-loop
-header-requires-2 c κs =
+header-requires-3 : tie.Need-header-requires-3 Inv-loop μ-loop
+header-requires-3 c κs =
     let a = c .before .before .before .before .args in
     (c .before .before .before .before .pre .0, edge-inside (shapeOf (a .l)) (a .l .pool) (a .s .now) _ _ (c .before .loop .inv .1))
 
@@ -91,7 +91,7 @@ returns c =
     let C = shapeOf (a .l) in
     let w = a .s .now in
     let n = c .before .before .before .before .loop .n .0 in
-    let f : c .before .is-full2 .result ≡ leb (C .cap) (count C w n) = c .before .is-full2 .ensures ∙ ap (λ (x : RowPageIndexNodeHeader). leb (C .cap) (x .count)) (c .before .before .header2 .ensures) in
+    let f : c .before .is-full2 .result ≡ leb (C .cap) (count C w n) = c .before .is-full2 .ensures ∙ ap (λ (x : RowPageIndexNodeHeader). leb (C .cap) (x .count)) (c .before .before .header3 .ensures) in
     sym (c .before .before .before .before .loop .inv .2 ∙ leaf-here C w _ n _ (omega (arith, c .before .before .before .loop-test .left)) (leb-false (C .cap) (count C w n) (sym f ∙ not-true _ (c .if2 .taken))))
 
 returns-2 : tie.Need-returns-2 Inv-loop μ-loop
@@ -100,26 +100,10 @@ returns-2 c =
     let C = shapeOf (a .l) in
     let w = a .s .now in
     let n = c .before .before .before .before .loop .n .0 in
-    let f : c .before .is-full2 .result ≡ leb (C .cap) (count C w n) = c .before .is-full2 .ensures ∙ ap (λ (x : RowPageIndexNodeHeader). leb (C .cap) (x .count)) (c .before .before .header2 .ensures) in
+    let f : c .before .is-full2 .result ≡ leb (C .cap) (count C w n) = c .before .is-full2 .ensures ∙ ap (λ (x : RowPageIndexNodeHeader). leb (C .cap) (x .count)) (c .before .before .header3 .ensures) in
     sym (c .before .before .before .before .loop .inv .2 ∙ leaf-full C w _ n _ (omega (arith, c .before .before .before .loop-test .left)) (leb-true (C .cap) (count C w n) (sym f ∙ not-false _ (c .if2 .left))))
 
 pub find-room-spec : {M : Type 1} → statement M
 find-room-spec =
     tie.close
-    (tie.spec
-    Inv-loop
-    μ-loop
-    part-requires
-    add-t12
-    loop-holds
-    header-requires
-    is-full-requires
-    sub-child
-    child-requires
-    sub-h
-    loop-less
-    loop-again
-    header-requires-2
-    is-full-requires-2
-    returns
-    returns-2)
+    (tie.spec Inv-loop μ-loop header-requires add-t13 loop-holds header-requires-2 is-full-requires sub-child child-requires sub-h loop-less loop-again header-requires-3 is-full-requires-2 returns returns-2)

@@ -12,6 +12,7 @@ use Rattle.model.specs.Reading.{occ}
 use Rattle.model.specs.Append.{chainSound, firsts, past}
 use Rattle.node_chain.specs.Chain.{listed}
 use Rattle.pool.proofs.Turns.{turn, stop}
+use Rattle.model.specs.declared.node.RowPageIndexNodeHeader.{RowPageIndexNodeHeader}
 use Rattle.node_chain.proofs.Links.{link-of, link-is, listed-set, linked, broken, firsts-turn, firsts-done}
 use Rattle.node_chain.proofs.read_chain.Statement.{statement}
 use Rattle.node_chain.proofs.read_chain.Tie as tie
@@ -30,8 +31,7 @@ loop-holds c = (omega arith, refl, rw sub-zero, rw sub-zero, rw sub-zero)
 
 returns : tie.Need-returns Inv-loop μ-loop
 returns c =
-    let t = c .before .before in
-    broken _ _ _ _ _ _ _ (t .loop-test .taken) (t .before .loop .inv .2) (λ p. false≢true (sym (sym (c .before .is-link .ensures) ∙ not-true _ (c .if1 .taken)) ∙ link-is _ _ _ _ _ p))
+    broken _ _ _ _ _ _ _ (c .before .before .loop-test .taken) (c .before .before .before .loop .inv .2) (λ p. false≢true (sym (sym (c .before .is-link .ensures) ∙ not-true _ (c .if1 .taken)) ∙ link-is _ _ _ _ _ p))
 
 is-link-requires : tie.Need-is-link-requires Inv-loop μ-loop
 is-link-requires c κs = search needs
@@ -41,17 +41,15 @@ holds-requires c κs = search needs
 
 returns-2 : tie.Need-returns-2 Inv-loop μ-loop
 returns-2 c =
-    let d = c .before in
-    let t = c .before .before .before .before in
-    broken _ _ _ _ _ _ _ (t .loop-test .taken) (t .before .loop .inv .2) (λ p. false≢true (rw (c .if2 .taken) at (d .holds .ensures) ∙ p .new))
+    broken _ _ _ _ _ _ _ (c .before .before .before .before .loop-test .taken) (c .before .before .before .before .before .loop .inv .2) (λ p. false≢true (rw (c .if2 .taken) at (c .before .holds .ensures) ∙ p .new))
 
-part-requires : tie.Need-part-requires Inv-loop μ-loop
+header-requires : tie.Need-header-requires Inv-loop μ-loop
 unfolding occ
-part-requires c κs =
+header-requires c κs =
     let a = c .before .before .before .before .before .before .before .args in
     let g = sym (c .before .before .before .is-link .ensures) ∙ not-false _ (c .before .before .if1 .left) in
     let p = link-of (shapeOf (a .l)) (a .l .pool) (a .s .now) (c .before .before .before .before .before .loop .n .0) [] g refl in
-    (c .before .before .before .before .before .before .before .pre .0, (p .inside, omega arith))
+    (c .before .before .before .before .before .before .before .pre .0, p .inside)
 
 mul-nodes : tie.Need-mul-nodes Inv-loop μ-loop
 mul-nodes c = search needs
@@ -68,18 +66,17 @@ loop-less c = search needs
 loop-again : tie.Need-loop-again Inv-loop μ-loop
 unfolding past
 loop-again c =
-    let t = c .before .before .before .before .before in
     let l = c .before .before .before .before .before .before .loop in
     let seen = listed (l .nodes) 0 (l .i) in
-    let next = c .part .ensures in
+    let next = (ap (λ (h : RowPageIndexNodeHeader). h .count) (c .header .ensures)) in
     let more = listed-set (l .nodes) (l .i) (l .n) (omega arith) in
     let g = sym (c .before .before .before .before .is-link .ensures) ∙ not-false _ (c .before .before .before .if1 .left) in
     let p = link-of _ _ _ (l .n .0) seen g (sym (rw (c .before .if2 .left) at (c .before .before .holds .ensures))) in (
       omega arith,
       length-set (l .nodes) (l .i) (l .n) ∙ l .inv .1,
-      l .inv .2 ∙ linked _ _ _ _ _ _ _ (t .loop-test .taken) p ∙ rw (more, next),
-      l .inv .3 ∙ firsts-turn _ _ _ _ _ seen (t .loop-test .taken) ∙ rw (more, next),
-      l .inv .4 ∙ turn (past _ _ _) _ _ (t .loop-test .taken) ∙ rw next,
+      l .inv .2 ∙ linked _ _ _ _ _ _ _ (c .before .before .before .before .before .loop-test .taken) p ∙ rw (more, next),
+      l .inv .3 ∙ firsts-turn _ _ _ _ _ seen (c .before .before .before .before .before .loop-test .taken) ∙ rw (more, next),
+      l .inv .4 ∙ turn (past _ _ _) _ _ (c .before .before .before .before .before .loop-test .taken) ∙ rw next,
     )
 
 returns-3 : tie.Need-returns-3 Inv-loop μ-loop
@@ -94,18 +91,4 @@ returns-3 c =
 pub read-chain-spec : {M : Type 1} → statement M
 read-chain-spec =
     tie.close
-    (tie.spec
-    Inv-loop
-    μ-loop
-    loop-holds
-    is-link-requires
-    returns
-    holds-requires
-    returns-2
-    mul-nodes
-    array-set-from-nodes
-    part-requires
-    add-i
-    loop-less
-    loop-again
-    returns-3)
+    (tie.spec Inv-loop μ-loop loop-holds is-link-requires returns holds-requires returns-2 mul-nodes array-set-from-nodes header-requires add-i loop-less loop-again returns-3)
