@@ -97,9 +97,9 @@ unfolding ranOut
 ends-long e ids p c l = rw (one-left ids p l)
 
 -- what is said of a leaf, where h and k are its height and count
-pub told : (C : Shape) (w : List ℕ) (e n : ℕ) (ids : List ℕ) (p c h k : ℕ) → h ≡ height C w n → h ≡ 0 → k ≡ count C w n → {x : Scan} → x ≡ scanLeaf C w e n 0 k (on (drop p ids) p c)
+pub told : (C : Shape) (w : List ℕ) (e n : ℕ) (ids : List ℕ) (p c k : ℕ) → height C w n ≡ 0 → k ≡ count C w n → {x : Scan} → x ≡ scanLeaf C w e n 0 k (on (drop p ids) p c)
     → x ≡ pick (eqb (height C w n) 0) (scanLeaf C w e n 0 (count C w n) (on (drop p ids) p c)) (on (drop p ids) p c)
-told C w e n ids p c h k a b d q = rw (eq-eqb (height C w n) 0 (sym a ∙ b)) (q ∙ ap (λ (j : ℕ). scanLeaf C w e n 0 j (on (drop p ids) p c)) d)
+told C w e n ids p c k a d q = rw (eq-eqb (height C w n) 0 a) (q ∙ ap (λ (j : ℕ). scanLeaf C w e n 0 j (on (drop p ids) p c)) d)
 
 -- The last entry named ---------------------------------------------------------------------------------------
 -- from place p and entry i on, k entries lead to place p₂

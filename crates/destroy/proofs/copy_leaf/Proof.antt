@@ -1,4 +1,6 @@
 use borrow.Author.Needs.{needs}
+use borrow.Author.Tests.{not-true, not-false}
+use Rattle.node.proofs.Asked.{leaf-height, branch-height}
 use Prim.Native.Nat.{ℕ, _+_, _-_, _≤_}
 use mathlib.Core.Path.{_≡_, refl, sym, ap, _∙_}
 use native.Mathlib.Omega.{arith}
@@ -11,18 +13,18 @@ use Rattle.destroy.proofs.copy_leaf.Statement.{statement}
 use Rattle.destroy.proofs.copy_leaf.Tie as tie
 
 abbrev Inv-loop : tie.InvT-loop
-Inv-loop l s n pages₀ at height count place₀ i₀ pages place i =
+Inv-loop l s n pages₀ at count place₀ i₀ pages place i =
     (fill pages₀ at (pagesFrom (shapeOf l) s (n .0) 0 count) ≡ fill pages place (pagesFrom (shapeOf l) s (n .0) i (count - i))) × (place ≡ at + i) × (i ≤ count) × (length pages ≡ length pages₀)
 
 abbrev μ-loop : tie.MeasureT-loop
-μ-loop l s n pages₀ at height count place₀ i₀ pages place i = count - i
+μ-loop l s n pages₀ at count place₀ i₀ pages place i = count - i
 
 part-requires : tie.Need-part-requires Inv-loop μ-loop
 part-requires c κs = search needs
 
 returns : tie.Need-returns Inv-loop μ-loop
 unfolding fill
-returns c = let a = c .before .before .before .before .args in rw (branch-pages (shapeOf (a .l)) (a .s .now) (a .n .0) (λ z. c .if1 .taken (c .before .part .ensures ∙ z))) (omega arith, refl)
+returns c = let a = c .before .before .before .before .args in rw (branch-pages (shapeOf (a .l)) (a .s .now) (a .n .0) (branch-height (c .header .ensures) (c .is-leaf .ensures) (not-true _ (c .if1 .taken)))) (omega arith, refl)
 
 part-requires-2 : tie.Need-part-requires-2 Inv-loop μ-loop
 part-requires-2 c κs = search needs
@@ -37,7 +39,7 @@ mul-pages : tie.Need-mul-pages Inv-loop μ-loop
 mul-pages c = search needs
 
 slice-write-pages : tie.Need-slice-write-pages Inv-loop μ-loop
-slice-write-pages c = let a = c .before .before .before .before .before .before .before .before .args in omega (arith, c .before .before .loop .inv .1, c .before .before .loop .inv .3, c .before .loop-test .taken, c .before .before .before .before .before .before .before .before .pre .1 .2, c .before .before .before .part2 .ensures, leaf-length (shapeOf (a .l)) (a .s .now) (a .n .0) (sym (c .before .before .before .before .before .part .ensures) ∙ c .before .before .before .before .if1 .left))
+slice-write-pages c = let a = c .before .before .before .before .before .before .before .before .args in omega (arith, c .before .before .loop .inv .1, c .before .before .loop .inv .3, c .before .loop-test .taken, c .before .before .before .before .before .before .before .before .pre .1 .2, c .before .before .before .part2 .ensures, leaf-length (shapeOf (a .l)) (a .s .now) (a .n .0) (leaf-height (c .header .ensures) (c .is-leaf .ensures) (not-false _ (c .if1 .left))))
 
 add-place : tie.Need-add-place Inv-loop μ-loop
 add-place c = search needs
@@ -61,7 +63,7 @@ same-length c = c .before .loop .inv .3
 returns-2 : tie.Need-returns-2 Inv-loop μ-loop
 returns-2 c =
     let a = c .before .before .before .before .before .before .before .args in
-    let leaf = sym (c .before .before .before .before .part .ensures) ∙ c .before .before .before .if1 .left in (
+    let leaf = leaf-height (c .header .ensures) (c .is-leaf .ensures) (not-false _ (c .if1 .left)) in (
       omega (arith, c .before .loop .inv .1, c .before .loop .inv .2, c .loop-test .left, c .before .before .part2 .ensures, leaf-length (shapeOf (a .l)) (a .s .now) (a .n .0) leaf),
       sym (c .before .loop .inv .0 ∙ fill-done (shapeOf (a .l)) (a .s .now) (a .n .0) (c .before .loop .pages) (c .before .loop .place) (c .before .loop .i) _ (c .loop-test .left))
           ∙ ap (λ (k : ℕ). fill (a .pages .now) (a .at) (pagesFrom (shapeOf (a .l)) (a .s .now) (a .n .0) 0 k)) (c .before .before .part2 .ensures)

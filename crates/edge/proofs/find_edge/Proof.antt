@@ -6,6 +6,7 @@ use Rattle.node.specs.Layout.{shapeOf}
 use Rattle.model.specs.Paths.{lastOf}
 use Rattle.prefix.specs.Behind.{Behind}
 use Rattle.edge.specs.Edge.{Climbed}
+use Rattle.model.specs.declared.node.RowPageIndexNodeHeader.{RowPageIndexNodeHeader}
 use Rattle.edge.proofs.Climbs.{depth-low, start-climb, node-in, climb, keeps-some, at-root}
 use Rattle.edge.proofs.find_edge.Statement.{statement}
 use Rattle.edge.proofs.find_edge.Tie as tie
@@ -43,25 +44,25 @@ mul-top c = omega (arith, c .before .loop .inv .2 .low, c .loop-test .taken)
 element-copy-out-top : tie.Need-element-copy-out-top Inv-loop μ-loop
 element-copy-out-top c = omega (arith, c .before .loop .inv .2 .low, c .before .loop .inv .2 .long, c .loop-test .taken)
 
-part-requires : tie.Need-part-requires Inv-loop μ-loop
-part-requires c κs = let a = c .before .before .before .before .before .before .before .args in (c .before .before .before .before .before .before .before .pre .0, (node-in (shapeOf (a .l)) (a .l .pool) (a .s .now) (c .before .before .before .loop .inv .0) (c .before .before .before .loop .inv .1) (c .before .before .before .loop .edge) (c .before .before .before .loop .inv .2), omega arith))
+header-requires : tie.Need-header-requires Inv-loop μ-loop
+header-requires c κs = let a = c .before .before .before .before .before .before .before .args in (c .before .before .before .before .before .before .before .pre .0, node-in (shapeOf (a .l)) (a .l .pool) (a .s .now) (c .before .before .before .loop .inv .0) (c .before .before .before .loop .inv .1) (c .before .before .before .loop .edge) (c .before .before .before .loop .inv .2))
 
 returns : tie.Need-returns Inv-loop μ-loop
 returns c =
-    let a = c .before .before .before .before .before .before .before .before .before .args in
-    λ e root d. keeps-some (shapeOf (a .l)) (a .l .pool) (a .s .now) e root (c .before .before .before .before .before .loop .edge) (c .before .before .before .before .before .loop .inv .3 e root (start-climb (shapeOf (a .l)) (a .l .pool) (a .s .now) e root (a .path) (a .used) d)) (rw (c .before .part .ensures) at (c .if1 .taken))
+    let a = c .before .before .before .before .before .before .before .before .before .before .args in
+    λ e root d. keeps-some (shapeOf (a .l)) (a .l .pool) (a .s .now) e root (c .before .before .before .before .before .before .loop .edge) (c .before .before .before .before .before .before .loop .inv .3 e root (start-climb (shapeOf (a .l)) (a .l .pool) (a .s .now) e root (a .path) (a .used) d)) (rw ((ap (λ (h : RowPageIndexNodeHeader). h .count) (c .before .before .header .ensures))) at (c .if1 .taken))
 
 loop-less : tie.Need-loop-less Inv-loop μ-loop
-loop-less c = omega (arith, c .before .before .before .before .loop-test .taken)
+loop-less c = omega (arith, c .before .before .before .before .before .loop-test .taken)
 
 loop-again : tie.Need-loop-again Inv-loop μ-loop
 loop-again c =
-    let a = c .before .before .before .before .before .before .before .before .before .args in
-    let full = rw (c .before .part .ensures) at (c .if1 .left) in (
-      c .before .before .before .before .before .loop .inv .0,
-      c .before .before .before .before .before .loop .inv .1,
-      climb (shapeOf (a .l)) (a .l .pool) (a .s .now) (c .before .before .before .before .before .loop .inv .0) (c .before .before .before .before .before .loop .inv .1) (c .before .before .before .before .before .loop .edge) (c .before .before .before .before .before .loop .inv .2) (c .before .before .before .before .loop-test .taken) full,
-      λ e root x. climb (shapeOf (a .l)) (a .l .pool) (a .s .now) e root (c .before .before .before .before .before .loop .edge) (c .before .before .before .before .before .loop .inv .3 e root x) (c .before .before .before .before .loop-test .taken) full,
+    let a = c .before .before .before .before .before .before .before .before .before .before .args in
+    let full = rw ((ap (λ (h : RowPageIndexNodeHeader). h .count) (c .before .before .header .ensures))) at (c .if1 .left) in (
+      c .before .before .before .before .before .before .loop .inv .0,
+      c .before .before .before .before .before .before .loop .inv .1,
+      climb (shapeOf (a .l)) (a .l .pool) (a .s .now) (c .before .before .before .before .before .before .loop .inv .0) (c .before .before .before .before .before .before .loop .inv .1) (c .before .before .before .before .before .before .loop .edge) (c .before .before .before .before .before .before .loop .inv .2) (c .before .before .before .before .before .loop-test .taken) full,
+      λ e root x. climb (shapeOf (a .l)) (a .l .pool) (a .s .now) e root (c .before .before .before .before .before .before .loop .edge) (c .before .before .before .before .before .before .loop .inv .3 e root x) (c .before .before .before .before .before .loop-test .taken) full,
     )
 
 returns-2 : tie.Need-returns-2 Inv-loop μ-loop
@@ -72,20 +73,4 @@ returns-2 c =
 pub find-edge-spec : {M : Type 1} → statement M
 find-edge-spec =
     tie.close
-    (tie.spec
-    Inv-loop
-    μ-loop
-    sub-at
-    mul-last
-    element-copy-out-last
-    mul-t14
-    element-set-from-edge
-    loop-holds
-    sub-above
-    mul-top
-    element-copy-out-top
-    part-requires
-    returns
-    loop-less
-    loop-again
-    returns-2)
+    (tie.spec Inv-loop μ-loop sub-at mul-last element-copy-out-last mul-t14 element-set-from-edge loop-holds sub-above mul-top element-copy-out-top header-requires returns loop-less loop-again returns-2)

@@ -250,42 +250,4 @@ returns-5 c =
 pub scan-below-spec : {M : Type 1} → statement M
 scan-below-spec =
     tie.close
-    (tie.spec
-    Inv-loop
-    μ-loop
-    loop-holds
-    finish-requires
-    returns
-    sub-at
-    mul-top
-    element-copy-out-top
-    has-child-requires
-    loop-less
-    loop-again
-    mul-out
-    array-read-out
-    returns-2
-    mul-next
-    array-copy-out-next
-    enter-requires
-    enum-known-n
-    returns-3
-    enum-known-child
-    add-t56
-    mul-path
-    element-set-from-path
-    mul-t58
-    element-set-from-path-2
-    mul-nexts
-    array-set-from-nexts
-    mul-firsts
-    array-write-firsts
-    add-path
-    scan-node-requires
-    enum-known-r
-    returns-4
-    enum-known-p
-    sub-last
-    loop-less-2
-    loop-again-2
-    returns-5)
+    (tie.spec Inv-loop μ-loop loop-holds finish-requires returns sub-at mul-top element-copy-out-top has-child-requires loop-less loop-again mul-out array-read-out returns-2 mul-next array-copy-out-next enter-requires enum-known-n returns-3 enum-known-child add-t56 mul-path element-set-from-path mul-t58 element-set-from-path-2 mul-nexts array-set-from-nexts mul-firsts array-write-firsts add-path scan-node-requires enum-known-r returns-4 enum-known-p sub-last loop-less-2 loop-again-2 returns-5)

@@ -91,19 +91,4 @@ returns-4 c =
 pub prune-filled-spec : {M : Type 1} → statement M
 prune-filled-spec =
     tie.close
-    (tie.spec
-    header-requires
-    is-in-height-requires
-    same-length
-    returns
-    test-node-requires
-    enum-told
-    enum-known-first
-    same-length-2
-    returns-2
-    scan-tree-requires
-    prune-named-requires
-    same-length-3
-    returns-3
-    same-length-4
-    returns-4)
+    (tie.spec header-requires is-in-height-requires same-length returns test-node-requires enum-told enum-known-first same-length-2 returns-2 scan-tree-requires prune-named-requires same-length-3 returns-3 same-length-4 returns-4)
