@@ -141,7 +141,8 @@ fn destroy_sound(
     let low = starts_below(l, &s[..], root, wanted, pivot);
     if low {
         let top = l.header(&s[..], root);
-        return Destroyed::Refused(Refusal::RowBelowPivot(top.start_row_id));
+        let first = top.start_row_id;
+        return Destroyed::Refused(Refusal::RowBelowPivot(first));
     }
     if (pages.len() as u64) < wanted {
         return Destroyed::Refused(Refusal::ListTooShort(wanted));

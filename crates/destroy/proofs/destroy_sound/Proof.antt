@@ -5,6 +5,7 @@ use Rattle.model.specs.Words.{part}
 use Rattle.model.specs.Release.{Released}
 use Rattle.model.specs.Refusals.{refused}
 use Rattle.node.proofs.Opened.{is-open, opens-fits, opens-free}
+use Rattle.model.specs.declared.node.RowPageIndexNodeHeader.{RowPageIndexNodeHeader}
 use Rattle.destroy.proofs.Deciding.{few-nodes, releasable, counts, too-low, too-short, too-full, released}
 use Rattle.destroy.proofs.destroy_sound.Statement.{statement}
 use Rattle.destroy.proofs.destroy_sound.Tie as tie
@@ -12,17 +13,17 @@ use Rattle.destroy.proofs.destroy_sound.Tie as tie
 starts-below-requires : tie.Need-starts-below-requires
 starts-below-requires c κs = opens-fits _ _ (is-open _ _ (c .before .before .before .before .before .pre .0))
 
-part-requires : tie.Need-part-requires
-part-requires c κs = let q = opens-fits _ _ (is-open _ _ (c .before .before .before .before .before .before .before .before .pre .0)) in (q .0, (q .1, omega arith))
+header-requires : tie.Need-header-requires
+header-requires c κs = let q = opens-fits _ _ (is-open _ _ (c .before .before .before .before .before .before .before .before .pre .0)) in (q .0, q .1)
 
 same-length : tie.Need-same-length
 same-length c = search needs
 
 returns : tie.Need-returns
 returns c =
-    let a = c .before .before .before .before .before .before .before .before .before .args in
-    let e = too-low (a .s .now) (a .pivot .0) (a .pages .now) (a .h) (is-open _ _ (c .before .before .before .before .before .before .before .before .before .pre .0)) (a .counts) (c .before .before .before .before .before .before .before .before .before .pre .1) (sym (c .before .before .before .starts-below .ensures) ∙ c .before .before .if1 .taken) in
-    (ap (refused 12) (c .part .ensures) ∙ sym (ap (λ (x : Released). x .answer) e), (sym (ap (λ (x : Released). x .words) e), sym (ap (λ (x : Released). x .list) e)))
+    let a = c .before .before .before .before .before .before .before .before .before .before .args in
+    let e = too-low (a .s .now) (a .pivot .0) (a .pages .now) (a .h) (is-open _ _ (c .before .before .before .before .before .before .before .before .before .before .pre .0)) (a .counts) (c .before .before .before .before .before .before .before .before .before .before .pre .1) (sym (c .before .before .before .before .starts-below .ensures) ∙ c .before .before .before .if1 .taken) in
+    (ap (refused 12) ((ap (λ (h : RowPageIndexNodeHeader). h .«start_row_id» .0) (c .before .header .ensures))) ∙ sym (ap (λ (x : Released). x .answer) e), (sym (ap (λ (x : Released). x .words) e), sym (ap (λ (x : Released). x .list) e)))
 
 same-length-2 : tie.Need-same-length-2
 same-length-2 c = search needs
@@ -70,17 +71,4 @@ returns-4 c =
 pub destroy-sound-spec : {M : Type 1} → statement M
 destroy-sound-spec =
     tie.close
-    (tie.spec
-    starts-below-requires
-    part-requires
-    same-length
-    returns
-    same-length-2
-    returns-2
-    add-if3
-    same-length-3
-    returns-3
-    destroy-tree-requires
-    same-length-4
-    same-length-5
-    returns-4)
+    (tie.spec starts-below-requires header-requires same-length returns same-length-2 returns-2 add-if3 same-length-3 returns-3 destroy-tree-requires same-length-4 same-length-5 returns-4)
