@@ -1,90 +1,26 @@
 // Answers as numbers: 01's number of each refusal with its detail, and the values of each answer.
 
 ghost use mathlib.Core.Path.{_≡_};
-ghost use mathlib.Core.List.{[], _∷_};
 ghost use lib.ListN.{set};
 ghost use Rattle.model.specs.Words.{fill};
-ghost use Rattle.model.specs.Refusals.{checkedAnswer, created, destroyed, inserted, location, nextLeaf, pruned, refusal, refused};
-ghost use Rattle.answers.specs.Numbers.{answerWords, wordsOf};
+ghost use Rattle.model.specs.Refusals.{checkedAnswer, created, destroyed, inserted, location, nextLeaf, pruned};
+ghost use Rattle.answer_numbers.specs.Numbers.{answerWords, wordsOf};
+use answer_numbers;
+use answer_numbers::Numbers;
 use model::answer::Checked;
 use model::answer::Created;
 use model::answer::Destroyed;
 use model::answer::Inserted;
 use model::answer::NextLeaf;
 use model::answer::Pruned;
-use model::answer::Refusal;
 use model::answer::RowLocation;
-
-// A refusal's number and its detail.
-pub struct Numbered(pub u64, pub u64);
-
-pub fn number_of(r: Refusal) -> Numbered
-    ensures { λ n. ⌜ refusal r ≡ refused (n .0) (n .1) ⌝ }
-{
-    match r {
-        Refusal::BadParameters => Numbered(1, 0),
-        Refusal::Unsound(node) => Numbered(2, node.0),
-        Refusal::Closed => Numbered(3, 0),
-        Refusal::RowLimit => Numbered(4, 0),
-        Refusal::NoRoom(needed) => Numbered(5, needed),
-        Refusal::HeightLimit => Numbered(6, 0),
-        Refusal::NoPrefix => Numbered(7, 0),
-        Refusal::StartDiffers(start) => Numbered(8, start.0),
-        Refusal::PageDiffers(place) => Numbered(9, place),
-        Refusal::EndDiffers(place) => Numbered(10, place),
-        Refusal::ListTooLong(held) => Numbered(11, held),
-        Refusal::RowBelowPivot(row) => Numbered(12, row.0),
-        Refusal::ListTooShort(wanted) => Numbered(13, wanted),
-    }
-}
-
-// Seven words of an answer: number 0 and so many values, or a refusal's number and its detail as the only value.
-pub struct Numbers {
-    pub number: u64,
-    pub count: u64,
-    pub first: u64,
-    pub second: u64,
-    pub third: u64,
-    pub fourth: u64,
-    pub fifth: u64,
-}
-
-// So many of three values.
-fn values(count: u64, first: u64, second: u64, third: u64) -> Numbers
-    ensures { λ n. ⌜ wordsOf n ≡ 0 ∷ count ∷ first ∷ second ∷ third ∷ 0 ∷ 0 ∷ [] ⌝ }
-{
-    Numbers {
-        number: 0,
-        count,
-        first,
-        second,
-        third,
-        fourth: 0,
-        fifth: 0,
-    }
-}
-
-fn refusal_numbers(r: Refusal) -> Numbers
-    ensures { λ n. ⌜ wordsOf n ≡ answerWords (refusal r) ⌝ }
-{
-    let x = number_of(r);
-    Numbers {
-        number: x.0,
-        count: 1,
-        first: x.1,
-        second: 0,
-        third: 0,
-        fourth: 0,
-        fifth: 0,
-    }
-}
 
 pub fn created_numbers(a: Created) -> Numbers
     ensures { λ n. ⌜ wordsOf n ≡ answerWords (created a) ⌝ }
 {
     match a {
-        Created::Done => values(0, 0, 0, 0),
-        Created::Refused(r) => refusal_numbers(r),
+        Created::Done => answer_numbers::values(0, 0, 0, 0),
+        Created::Refused(r) => answer_numbers::refusal_numbers(r),
     }
 }
 
@@ -92,9 +28,9 @@ pub fn location_numbers(a: RowLocation) -> Numbers
     ensures { λ n. ⌜ wordsOf n ≡ answerWords (location a) ⌝ }
 {
     match a {
-        RowLocation::RowPage(page) => values(1, page.0, 0, 0),
-        RowLocation::NotFound => values(0, 0, 0, 0),
-        RowLocation::Refused(r) => refusal_numbers(r),
+        RowLocation::RowPage(page) => answer_numbers::values(1, page.0, 0, 0),
+        RowLocation::NotFound => answer_numbers::values(0, 0, 0, 0),
+        RowLocation::Refused(r) => answer_numbers::refusal_numbers(r),
     }
 }
 
@@ -102,8 +38,13 @@ pub fn inserted_numbers(a: Inserted) -> Numbers
     ensures { λ n. ⌜ wordsOf n ≡ answerWords (inserted a) ⌝ }
 {
     match a {
-        Inserted::Done(i) => values(3, i.start_row_id.0, i.end_row_id.0, i.taken_nodes),
-        Inserted::Refused(r) => refusal_numbers(r),
+        Inserted::Done(i) => answer_numbers::values(
+            3,
+            i.start_row_id.0,
+            i.end_row_id.0,
+            i.taken_nodes,
+        ),
+        Inserted::Refused(r) => answer_numbers::refusal_numbers(r),
     }
 }
 
@@ -111,8 +52,13 @@ pub fn pruned_numbers(a: Pruned) -> Numbers
     ensures { λ n. ⌜ wordsOf n ≡ answerWords (pruned a) ⌝ }
 {
     match a {
-        Pruned::Done(p) => values(3, p.removed_entries, p.reclaimed_nodes, p.collapsed_levels),
-        Pruned::Refused(r) => refusal_numbers(r),
+        Pruned::Done(p) => answer_numbers::values(
+            3,
+            p.removed_entries,
+            p.reclaimed_nodes,
+            p.collapsed_levels,
+        ),
+        Pruned::Refused(r) => answer_numbers::refusal_numbers(r),
     }
 }
 
@@ -120,9 +66,9 @@ pub fn next_leaf_numbers(a: NextLeaf) -> Numbers
     ensures { λ n. ⌜ wordsOf n ≡ answerWords (nextLeaf a) ⌝ }
 {
     match a {
-        NextLeaf::Found(l) => values(3, l.start_row_id.0, l.end_row_id.0, l.count),
-        NextLeaf::Done => values(0, 0, 0, 0),
-        NextLeaf::Refused(r) => refusal_numbers(r),
+        NextLeaf::Found(l) => answer_numbers::values(3, l.start_row_id.0, l.end_row_id.0, l.count),
+        NextLeaf::Done => answer_numbers::values(0, 0, 0, 0),
+        NextLeaf::Refused(r) => answer_numbers::refusal_numbers(r),
     }
 }
 
@@ -130,8 +76,8 @@ pub fn destroyed_numbers(a: Destroyed) -> Numbers
     ensures { λ n. ⌜ wordsOf n ≡ answerWords (destroyed a) ⌝ }
 {
     match a {
-        Destroyed::Done { nodes, pages } => values(2, nodes, pages, 0),
-        Destroyed::Refused(r) => refusal_numbers(r),
+        Destroyed::Done { nodes, pages } => answer_numbers::values(2, nodes, pages, 0),
+        Destroyed::Refused(r) => answer_numbers::refusal_numbers(r),
     }
 }
 
@@ -143,8 +89,8 @@ pub fn checked_numbers(a: Checked) -> Numbers
             entries,
             nodes,
             free,
-        } => values(3, entries, nodes, free),
-        Checked::Refused(r) => refusal_numbers(r),
+        } => answer_numbers::values(3, entries, nodes, free),
+        Checked::Refused(r) => answer_numbers::refusal_numbers(r),
     }
 }
 

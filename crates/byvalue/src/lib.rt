@@ -8,24 +8,15 @@ ghost use Rattle.model.specs.LeafWalk as W;
 ghost use Rattle.model.specs.Refusals.{nextLeaf};
 ghost use Rattle.listing.specs.Listing.{Readable, recordsOf};
 ghost use Rattle.byvalue.specs.Written.{WordSteps, wordsOf};
+use leaf_step;
 use listing::LeafEntries;
 use model::answer::NextLeaf;
 use model::cursor::RowPageIndexMemCursor;
-use model::id::RowID;
 
 // The answer, and the cursor afterwards.
 pub struct WordStep {
     pub answer: NextLeaf,
     pub cursor: RowPageIndexMemCursor,
-}
-
-// `seek` of a cursor held by value.
-pub fn seek_value(c: RowPageIndexMemCursor, row: RowID) -> RowPageIndexMemCursor
-    ensures { λ r. ⌜ r ≡ W.seek (row .0) ⌝ }
-{
-    let mut d = c;
-    cursor::seek(&mut d, row);
-    d
 }
 
 // Whether a step gave a leaf.
@@ -70,7 +61,7 @@ fn copy_words(s: &[u64], out: &mut [u64], e: LeafEntries)
 pub fn next_words(s: &[u64], cursor: RowPageIndexMemCursor, out: &mut [u64]) -> WordStep
     ensures { λ r. ⌜ WordSteps (now (s .entry)) cursor (now (out .entry)) (now (out .exit)) r ⌝ }
 {
-    let p = cursor::step(s, cursor, out.len() / 2);
+    let p = leaf_step::step(s, cursor, out.len() / 2);
     let entries = p.entries;
     copy_words(s, out, entries);
     let answer = p.answer;

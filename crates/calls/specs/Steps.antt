@@ -7,7 +7,6 @@ use Rattle.text.specs.Lines.{Puts}
 use Rattle.lines.specs.Answers.{leafLines}
 use Rattle.calls.specs.Calls.{Memory, Performed}
 use Rattle.calls.specs.declared.Progress.{Progress}
-use Rattle.calls.specs.declared.WalkStep.{WalkStep}
 
 -- the words w, of which u are in use
 abbrev pub memory : List ℕ → ℕ → Memory
@@ -19,9 +18,3 @@ pub record Does (p : Performed) (out : List ℕ) (at : ℕ) (w₁ out₁ : List 
   pub used : r .used ≡ p .memory .used
   pub goes : r .goes ≡ p .goes
   pub puts : Puts out at (p .lines) out₁ (r .at)
-
--- what a step of a walk does: it goes on where a leaf was given
-pub record Walks (p : Stepped) (out : List ℕ) (at : ℕ) (out₁ : List ℕ) (r : WalkStep) : Type 0 where
-  pub cursor : r .cursor ≡ p .cursor
-  pub goes : r .goes ≡ givesLeaf (p .answer)
-  pub puts : Puts out at (leafLines (p .answer) []) out₁ (r .at)

@@ -1,5 +1,1 @@
-pub mod Stepping
-pub mod Lined
-pub mod Chosen
-pub mod Walk
 pub mod Unique

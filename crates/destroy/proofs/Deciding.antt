@@ -24,7 +24,7 @@ use Rattle.tally.specs.declared.Counts.{Counts}
 use Rattle.tally.specs.declared.Survey.{Survey}
 use Rattle.tally.specs.declared.Survey.the-variants.{Unsound, Counted}
 use Rattle.survey.proofs.Exact.{survey-bad, survey-clear, survey-counts}
-use Rattle.destroy.specs.Releasable.{Releasable, startsBelow}
+use Rattle.release_pages.specs.Releasable.{Releasable, startsBelow}
 use Rattle.destroy.proofs.Pivot.{pivot}
 
 module _ (w : List ℕ) (v : ℕ) (l : List ℕ) where

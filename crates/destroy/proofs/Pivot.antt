@@ -15,7 +15,7 @@ use Rattle.model.specs.WellFormed.{SoundRoot, emptyTree, soundTree}
 use Rattle.model.proofs.Tests.{by-test}
 use Rattle.formed.proofs.Linked.{Run, none, more, sound-linked}
 use Rattle.formed.proofs.Rooted.{empty-entries}
-use Rattle.destroy.specs.Releasable.{startsBelow}
+use Rattle.release_pages.specs.Releasable.{startsBelow}
 
 module _ (v : ℕ) where
   run-clear : (r z : ℕ) (es : List Entry) → Run r es z → v ≤ r → firstLow v es ≡ clear

@@ -23,7 +23,7 @@ use Rattle.cut.proofs.Rests.{withPairs}
 use Rattle.walk.specs.Left.{bound}
 use Rattle.formed.proofs.Clean.{leaf-rises}
 use Rattle.model.specs.Prune.{entryEnd}
-use Rattle.prefix.specs.Behind.{Passed, limitAt, Done, Above, Behind, Last}
+use Rattle.prefix_leaf.specs.Behind.{Passed, limitAt, Done, Above, Behind, Last}
 use Rattle.prefix.proofs.Traces.{tall, behind-out}
 use Rattle.edge.specs.Edge.{Meets, at, firstPairs, firstNodes, Stays, trimsUp, goneUp, Cutting}
 use Rattle.edge.proofs.Goes.{gone-cons, cut-append, went-append, trims-append, pairs-split, all-went, pairs-go, goes}

@@ -16,7 +16,7 @@ use Rattle.model.specs.declared.path.Path.{Path}
 use Rattle.model.proofs.Paths.{stack-pop, stack-set, stack-none}
 use Rattle.walk.proofs.Valid.{valid-top}
 use Rattle.walk.proofs.InPlace.{popped}
-use Rattle.prefix.specs.Behind.{Above, Behind}
+use Rattle.prefix_leaf.specs.Behind.{Above, Behind}
 use Rattle.prefix.specs.Named.{Ended}
 use Rattle.prefix.proofs.Traces.{tall, at-last}
 use Rattle.edge.specs.Edge.{Meets, at, firstPairs, firstNodes, Stays, trimsUp, goneUp, Cutting, edgeTrims, edgeGone, Climbed, Edged}

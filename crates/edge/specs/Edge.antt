@@ -10,7 +10,7 @@ use Rattle.model.specs.Cut.{cutPairs, cut, wentPairs, went, trims}
 use Rattle.model.specs.Paths.{lastOf, above}
 use Rattle.model.specs.declared.path.Position.{Position}
 use Rattle.model.specs.declared.path.Path.{Path}
-use Rattle.prefix.specs.Behind.{limitAt, Behind}
+use Rattle.prefix_leaf.specs.Behind.{limitAt, Behind}
 
 -- the end of the last entry that goes is what is next
 unfoldable pub Meets : Limit → ℕ → Type 0

@@ -18,8 +18,8 @@ use Rattle.model.specs.declared.cursor.RowPageIndexMemCursor.{RowPageIndexMemCu
 use Rattle.model.proofs.Tests.{by-test}
 use Rattle.formed.specs.Holds.{Holds}
 use Rattle.model.proofs.Fill.{length-fill}
-use Rattle.cursor.specs.Walking.{firstPairs, Gives, one, ended}
-use Rattle.cursor.proofs.Walk.{read, none-some, third}
+use Rattle.walks.specs.Walking.{firstPairs, Gives, one, ended}
+use Rattle.walks.proofs.Walk.{read, none-some, third}
 use Rattle.history.specs.Calls.{Loan, nothing, withCursor, withRecords, reply, History}
 use Rattle.history.specs.Laws.{Walks, between, gave, over}
 use Rattle.history.proofs.Leaves.{spot}

@@ -11,8 +11,8 @@ use Rattle.model.specs.Refusals.{refused}
 use Rattle.model.specs.LeafWalk.{seek, pageEntry}
 use Rattle.model.specs.Ledger.{Ledger, ledgerWalk}
 use Rattle.formed.specs.Holds.{Holds}
-use Rattle.cursor.specs.Walking.{leafCount}
-use Rattle.cursor.proofs.Walk.{gives-once}
+use Rattle.walks.specs.Walking.{leafCount}
+use Rattle.walks.proofs.Walk.{gives-once}
 use Rattle.history.specs.Calls.{Loan, Call, Reply, reply, State, holding, closed, History, Place, begin, run}
 use Rattle.history.specs.Laws.{Walks}
 use Rattle.history.specs.Histories.{Kept}

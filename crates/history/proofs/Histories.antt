@@ -23,7 +23,7 @@ use Rattle.growth.proofs.Verdict.{verdict-five}
 use Rattle.ledger.specs.Sizes.{treeHeight, treeNodes, neededNodes}
 use Rattle.ledger.specs.Laws.{PruneLaw}
 use Rattle.ledger.proofs.Calls.{create-law, insert-law, prune-law}
-use Rattle.cursor.proofs.Walk.{walk-law, walk-from}
+use Rattle.walks.proofs.Walk.{walk-law, walk-from}
 use Rattle.history.specs.Calls.{Loan, Call, append, lookup, prune, seekRow, nextLeaf, release, releaseEmpty, check, Reply, reply, State, holding, closed, ifDone, stateAfter, History, Place, begin, run}
 use Rattle.history.specs.Histories.{Told, Holding, Closed, Kept}
 use Rattle.history.proofs.Releasing.{closed-of, Decided, below, short, good, decide, DecidedEmpty, filled, bare, decide-empty}

@@ -24,10 +24,10 @@ use Rattle.formed.proofs.Entries.{from-length}
 use Rattle.formed.proofs.Rooted.{empty-entries}
 use Rattle.growth.specs.Needed.{entriesEnd}
 use Rattle.ledger.proofs.Calls.{ends}
-use Rattle.cursor.specs.Walking.{LeafAt, leaves, storeLeaves}
-use Rattle.cursor.proofs.Lined.{Good, Lined, chosenIn, lined-good, lined-rest, lowOf, split}
-use Rattle.cursor.proofs.Chosen.{leafOf, store-lined, store-reach}
-use Rattle.cursor.proofs.Walk.{lowPage, leaf-joined, from-walk}
+use Rattle.walks.specs.Walking.{LeafAt, leaves, storeLeaves}
+use Rattle.walks.proofs.Lined.{Good, Lined, chosenIn, lined-good, lined-rest, lowOf, split}
+use Rattle.walks.proofs.Chosen.{leafOf, store-lined, store-reach}
+use Rattle.walks.proofs.Walk.{lowPage, leaf-joined, from-walk}
 use Rattle.history.specs.Laws.{leafEnd}
 
 -- The entries of a tree, leaf by leaf -----------------------------------------------------------------------

@@ -17,7 +17,7 @@ use Rattle.formed.specs.Holds.{Holds}
 use Rattle.growth.specs.Inserted.{verdict, Passes}
 use Rattle.ledger.specs.Sizes.{treeHeight, treeNodes, neededNodes}
 use Rattle.ledger.specs.Laws.{PruneLaw}
-use Rattle.cursor.specs.Walking.{leafCount, Gives, From}
+use Rattle.walks.specs.Walking.{leafCount, Gives, From}
 use Rattle.history.specs.Calls.{Loan, Call, append, lookup, prune, seekRow, nextLeaf, release, releaseEmpty, check, Reply, reply, State, holding, closed, History}
 use Rattle.history.specs.Laws.{NextLaw, Walks, ledgerRelease}
 

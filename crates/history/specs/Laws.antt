@@ -12,7 +12,7 @@ use Rattle.model.specs.Refusals.{Answer, result, refused}
 use Rattle.model.specs.LeafWalk.{cursorAt, pageEntry}
 use Rattle.model.specs.Ledger.{Range, Ledger, endFrom, walkFrom, ledgerWalk}
 use Rattle.model.specs.declared.cursor.RowPageIndexMemCursor.{RowPageIndexMemCursor}
-use Rattle.cursor.specs.Walking.{firstPairs}
+use Rattle.walks.specs.Walking.{firstPairs}
 use Rattle.history.specs.Calls.{Loan, Call, nextLeaf, Reply, reply, History}
 
 -- Next -----------------------------------------------------------------------------------------------------------

@@ -7,8 +7,11 @@
 // checks and releases accepted. The second: refusals 3 to 13, all answers folded into a number, and how many
 // answers, stores or lists were wrong.
 
+use answer_numbers;
 use byvalue;
 use byvalue::WordStep;
+use destroy_empty;
+use leaf_step;
 use libc::STDOUT_FILENO;
 use model::answer::Checked;
 use model::answer::Created;
@@ -124,7 +127,7 @@ fn refusal(no: u64, detail: u64) -> Answer {
 }
 
 fn told(r: Refusal) -> Answer {
-    let n = answers::number_of(r);
+    let n = answer_numbers::number_of(r);
     refusal(n.0, n.1)
 }
 
@@ -810,7 +813,7 @@ fn walk_from(s: &[u64], book: &[u64], list: &mut [u64], row: u64, r: State) -> S
         s,
         book,
         list,
-        byvalue::seek_value(cursor, RowID(row)),
+        leaf_step::sought(RowID(row)),
         leaf_from(book, i),
         r,
     )
@@ -933,7 +936,7 @@ fn want_empty(r: State) -> Answer {
 
 fn release_empty(s: &mut [u64], run: State) -> State {
     let want = want_empty(run);
-    let got = of_destroy(destroy::destroy_empty(s));
+    let got = of_destroy(destroy_empty::destroy_empty(s));
     close(want, judge(run, RELEASED, got, want))
 }
 

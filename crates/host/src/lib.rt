@@ -3,15 +3,13 @@
 
 ghost use mathlib.Core.Path.{_≡_};
 ghost use lib.ListN.{getD};
-ghost use Rattle.model.specs.Words.{fill, pick};
-ghost use Rattle.model.specs.Refusals.{nextLeaf};
-ghost use Rattle.answers.specs.Numbers.{answerWords};
-ghost use Rattle.host.specs.Cursors.{cursorAfter, cursorIn};
+ghost use Rattle.model.specs.Words.{fill};
+ghost use Rattle.answer_numbers.specs.Numbers.{answerWords};
 ghost use Rattle.host.specs.Served.{append, check, create, destroy, destroyEmpty, find, next, onCursor, onPages, onWalk, onWords, prune, seek, served};
 use answers;
 use byvalue;
-use model::answer::NextLeaf;
-use model::cursor::RowPageIndexMemCursor;
+use destroy_empty;
+use host_cursor;
 use model::id::PageID;
 use model::id::RowID;
 
@@ -109,7 +107,7 @@ pub extern "C" fn row_page_index_destroy_empty(words: &mut [u64], answer: &mut [
     ensures answer { λ _. ⌜ now (answer .exit) ≡ fill (now (answer .entry)) 0 (answerWords (served (onWords (now (words .entry))) destroyEmpty .answer)) ⌝ }
     ensures number { λ r. ⌜ r ≡ getD (answerWords (served (onWords (now (words .entry))) destroyEmpty .answer)) 0 0 ⌝ }
 {
-    let n = answers::destroyed_numbers(destroy::destroy_empty(words));
+    let n = answers::destroyed_numbers(destroy_empty::destroy_empty(words));
     answers::write(answer, n);
     n.number
 }
@@ -123,48 +121,6 @@ pub extern "C" fn row_page_index_check(words: &[u64], answer: &mut [u64]) -> u64
     let n = answers::checked_numbers(full_check::full_check(words));
     answers::write(answer, n);
     n.number
-}
-
-// Word i, or another where there is none.
-fn word(l: &[u64], i: usize, other: u64) -> u64
-    ensures { λ r. ⌜ r ≡ getD (now (l .entry)) i other ⌝ }
-{
-    if l.len() <= i {
-        return other;
-    }
-    l[i]
-}
-
-// The cursor of two words: its row, and 0 where it is not done. Words that are not there are those of a cursor never sought.
-fn cursor_in(cursor: &[u64]) -> RowPageIndexMemCursor
-    ensures { λ r. ⌜ r ≡ cursorIn (now (cursor .entry)) ⌝ }
-{
-    let row = word(cursor, 0, 0);
-    let done = word(cursor, 1, 1) != 0;
-    RowPageIndexMemCursor {
-        row_id: RowID(row),
-        done,
-    }
-}
-
-fn flag(b: bool) -> u64
-    ensures { λ r. ⌜ r ≡ pick b 1 0 ⌝ }
-{
-    if b { 1 } else { 0 }
-}
-
-// The cursor's words where a leaf was given; else they stay.
-fn cursor_out(cursor: &mut [u64], c: RowPageIndexMemCursor, given: NextLeaf)
-    ensures { λ _. ⌜ now (cursor .exit) ≡ cursorAfter (now (cursor .entry)) c (nextLeaf given) ⌝ }
-{
-    let moves = byvalue::gives_leaf(given);
-    if !moves {
-        return;
-    }
-    let row = c.row_id;
-    let done = flag(c.done);
-    answers::put(cursor, 0, row.0);
-    answers::put(cursor, 1, done);
 }
 
 // Keeps a row.
@@ -189,10 +145,10 @@ pub extern "C" fn row_page_index_next(
     ensures answer { λ _. ⌜ now (answer .exit) ≡ fill (now (answer .entry)) 0 (answerWords (served (onWalk (now (words .entry)) (now (cursor .entry)) (now (records .entry))) next .answer)) ⌝ }
     ensures number { λ r. ⌜ r ≡ getD (answerWords (served (onWalk (now (words .entry)) (now (cursor .entry)) (now (records .entry))) next .answer)) 0 0 ⌝ }
 {
-    let step = byvalue::next_words(words, cursor_in(&cursor[..]), records);
+    let step = byvalue::next_words(words, host_cursor::cursor_in(&cursor[..]), records);
     let after = step.cursor;
     let given = step.answer;
-    cursor_out(cursor, after, given);
+    host_cursor::cursor_out(cursor, after, given);
     let n = answers::next_leaf_numbers(given);
     answers::write(answer, n);
     n.number

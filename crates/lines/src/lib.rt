@@ -6,8 +6,9 @@ ghost use Rattle.model.specs.Refusals.{created, destroyed, inserted, location, 
 ghost use Rattle.text.specs.Lines.{Puts};
 ghost use Rattle.lines.specs.Names.{appendName, createName, pruneName, releaseName};
 ghost use Rattle.lines.specs.Answers.{answerLine, findLine, leafLines, refusalLine};
+use answer_numbers;
+use answer_numbers::Numbered;
 use answers;
-use answers::Numbered;
 use model::answer::Created;
 use model::answer::Destroyed;
 use model::answer::Inserted;
@@ -26,7 +27,7 @@ pub fn put_created(out: &mut [u8], at: usize, a: Created) -> usize
 {
     match a {
         Created::Done => text::put_line(out, at, b"create"),
-        Created::Refused(r) => put_refusal(out, at, answers::number_of(r)),
+        Created::Refused(r) => put_refusal(out, at, answer_numbers::number_of(r)),
     }
 }
 
@@ -42,7 +43,7 @@ pub fn put_inserted(out: &mut [u8], at: usize, a: Inserted) -> usize
             i.end_row_id.0,
             i.taken_nodes,
         ),
-        Inserted::Refused(r) => put_refusal(out, at, answers::number_of(r)),
+        Inserted::Refused(r) => put_refusal(out, at, answer_numbers::number_of(r)),
     }
 }
 
@@ -52,7 +53,7 @@ pub fn put_location(out: &mut [u8], at: usize, a: RowLocation) -> usize
     match a {
         RowLocation::RowPage(page) => text::put_line1(out, at, b"page", page.0),
         RowLocation::NotFound => text::put_line(out, at, b"none"),
-        RowLocation::Refused(r) => put_refusal(out, at, answers::number_of(r)),
+        RowLocation::Refused(r) => put_refusal(out, at, answer_numbers::number_of(r)),
     }
 }
 
@@ -68,7 +69,7 @@ pub fn put_pruned(out: &mut [u8], at: usize, a: Pruned) -> usize
             d.reclaimed_nodes,
             d.collapsed_levels,
         ),
-        Pruned::Refused(r) => put_refusal(out, at, answers::number_of(r)),
+        Pruned::Refused(r) => put_refusal(out, at, answer_numbers::number_of(r)),
     }
 }
 
@@ -86,7 +87,7 @@ pub fn put_next(out: &mut [u8], at: usize, a: NextLeaf) -> usize
             leaf.count,
         ),
         NextLeaf::Done => text::put_line(out, at, b"end"),
-        NextLeaf::Refused(r) => put_refusal(out, at, answers::number_of(r)),
+        NextLeaf::Refused(r) => put_refusal(out, at, answer_numbers::number_of(r)),
     }
 }
 
@@ -95,6 +96,6 @@ pub fn put_destroyed(out: &mut [u8], at: usize, a: Destroyed) -> usize
 {
     match a {
         Destroyed::Done { nodes, pages } => text::put_line2(out, at, b"release", nodes, pages),
-        Destroyed::Refused(r) => put_refusal(out, at, answers::number_of(r)),
+        Destroyed::Refused(r) => put_refusal(out, at, answer_numbers::number_of(r)),
     }
 }

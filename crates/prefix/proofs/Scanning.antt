@@ -31,12 +31,13 @@ use Rattle.tally.specs.declared.Survey.{Survey}
 use Rattle.survey.proofs.Going.{Beside, Going, start-going, going-out, less-out, inside, deep, ranged, narrow, going-in, less-in}
 use Rattle.model.specs.Refusals.{Answer, result, refused}
 use Rattle.model.proofs.Tests.{by-test}
-use Rattle.prefix.specs.Behind.{Passed, BehindPath, Last}
-use Rattle.prefix.specs.Named.{stoppedBy, Ended, endingOf, EndsAt}
-use Rattle.prefix.specs.declared.Named.{Named}
-use Rattle.prefix.specs.declared.Named.the-variants.{Entries, Refused}
+use Rattle.prefix_leaf.specs.Behind.{Passed, BehindPath, Last}
+use Rattle.prefix.specs.Named.{Ended, endingOf}
+use Rattle.prefix_leaf.specs.Progress.{stoppedBy, EndsAt}
+use Rattle.prefix_leaf.specs.declared.Named.{Named}
+use Rattle.prefix_leaf.specs.declared.Named.the-variants.{Entries, Refused}
 use Rattle.prefix.proofs.Traces.{sound-level, start-behind, path-out, path-in}
-use Rattle.prefix.proofs.Scans.{one-left, none-left, ends-long, scan-stopped, scan-used, noded}
+use Rattle.prefix_leaf.proofs.Scans.{one-left, none-left, ends-long, scan-stopped, scan-used, noded}
 
 -- S is what the list comes to; it is named up to a place, and the last entry named ends at a row
 pub record Scanning (C : Shape) (P : ℕ) (w : List ℕ) (e root : ℕ) (ids : List ℕ) (S : Scan) (p : Path) (nexts : List Limit) (firsts : List ℕ) (named to last : ℕ) : Type 0 where

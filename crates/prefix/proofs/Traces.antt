@@ -25,7 +25,7 @@ use Rattle.walk.specs.Turn.{hasChild}
 use Rattle.walk.proofs.Rest.{bound-turned}
 use Rattle.walk.proofs.Branch.{branch, Went}
 use Rattle.walk.proofs.InPlace.{rooted, popped}
-use Rattle.prefix.specs.Behind.{Passed, limitAt, Done, Above, Behind, BehindPath}
+use Rattle.prefix_leaf.specs.Behind.{Passed, limitAt, Done, Above, Behind, BehindPath}
 
 -- one more pair at the end
 all-snoc : {K : Type 0} (Q : K → ℕ → Limit → Type 0) (ps : List (ℕ × K)) (r : ℕ) (x : K) (b : Limit) → allPairs Q ps (Below r) → Q x r b → allPairs Q (ps ++ ((r, x) ∷ [])) b

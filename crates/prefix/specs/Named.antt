@@ -1,35 +1,16 @@
 -- The check of the list as the code answers it.
 use Prim.Native.Nat.{ℕ, _<_}
 use mathlib.Core.Path.{_≡_}
-use mathlib.Core.List.{List, []}
-use lib.ListN.{drop, length}
+use mathlib.Core.List.{List}
+use lib.ListN.{length}
 use Rattle.model.specs.Words.{Shape}
-use Rattle.model.specs.Refusals.{Answer, result, refused, refusal}
-use Rattle.model.specs.Prune.{Scan, stopped, on}
 use Rattle.model.specs.Paths.{lastOf}
 use Rattle.model.specs.declared.path.Path.{Path}
 use Rattle.walk.specs.Left.{ValidPath}
-use Rattle.prefix.specs.Behind.{BehindPath, Last}
+use Rattle.prefix_leaf.specs.Behind.{BehindPath, Last}
 use Rattle.prefix.specs.declared.Prefix.{Prefix}
-use Rattle.prefix.specs.declared.Progress.{Progress}
-use Rattle.prefix.specs.declared.Progress.the-variants.{On, Stopped}
-use Rattle.prefix.specs.declared.Named.{Named}
-use Rattle.prefix.specs.declared.Named.the-variants.{Entries, Refused}
-
--- a check that was refused so
-abbrev pub stoppedBy : Answer → Scan
-stoppedBy (result xs) = stopped 0 0
-stoppedBy (refused a d) = stopped a d
-
--- the ids left are those from the place on
-abbrev pub progressOf : List ℕ → Progress → Scan
-progressOf ids (On p c) = on (drop p ids) p (c .0)
-progressOf ids (Stopped r) = stoppedBy (refusal r)
-
--- no ids are left, and the last entry ends at e
-abbrev pub namedOf : ℕ → Named → Scan
-namedOf e (Entries k) = on [] k e
-namedOf e (Refused r) = stoppedBy (refusal r)
+use Rattle.prefix_leaf.specs.declared.Named.{Named}
+use Rattle.prefix_leaf.specs.declared.Named.the-variants.{Entries, Refused}
 
 -- the path to the leaf of the last entry named, with how many entries of that leaf are named
 pub record Ended (C : Shape) (P : ℕ) (w : List ℕ) (e root : ℕ) (p : Path) (u : ℕ) : Type 0 where
@@ -46,8 +27,3 @@ endingOf C P w e root (Refused r) p u = Unit {0}
 -- where the list is accepted
 unfoldable pub Ending : Shape → ℕ → List ℕ → ℕ → ℕ → Prefix → Type 0
 Ending C P w e root x = endingOf C P w e root (x .answer) (x .path) (x .used)
-
--- a list is accepted where the last entry named ends at e
-unfoldable pub EndsAt : ℕ → ℕ → Named → Type 0
-EndsAt e c (Entries k) = c ≡ e
-EndsAt e c (Refused r) = Unit {0}

@@ -4,18 +4,18 @@ ghost use mathlib.Core.Path.{_≡_};
 ghost use mathlib.Core.List.{[], _∷_};
 ghost use mathlib.Core.Bool.{true, false};
 ghost use Prim.Native.Nat.{suc, _+_, _-_, _≤_, _<_};
-ghost use lib.Dec.{eqb};
 ghost use lib.ListN.{drop, length};
-ghost use Rattle.model.specs.Words.{count, height, pick, start};
+ghost use Rattle.model.specs.Words.{height, start};
 ghost use Rattle.model.specs.Tree.{Open, level, nodeAt};
 ghost use Rattle.model.specs.Reading.{passes, visits};
-ghost use Rattle.model.specs.Prune.{entryEnd, on, ranOut, scan, scanLeaf};
+ghost use Rattle.model.specs.Prune.{on, ranOut, scan};
 ghost use Rattle.model.specs.Paths.{entered};
 ghost use Rattle.node.specs.Layout.{Fits, shapeOf};
 ghost use Rattle.walk.specs.Left.{Valid, rest};
 ghost use Rattle.walk.specs.Turn.{outOf};
-ghost use Rattle.prefix.specs.Behind.{Last, Passed};
-ghost use Rattle.prefix.specs.Named.{Ending, EndsAt, namedOf, progressOf};
+ghost use Rattle.prefix_leaf.specs.Behind.{Last, Passed};
+ghost use Rattle.prefix.specs.Named.{Ending};
+ghost use Rattle.prefix_leaf.specs.Progress.{namedOf};
 use model::answer::Refusal;
 use model::id::NodeNo;
 use model::id::RowID;
@@ -23,20 +23,11 @@ use model::path::Path;
 use model::path::Position;
 use node::layout::Layout;
 use node_test::Limit;
+use prefix_leaf;
+use prefix_leaf::Named;
+use prefix_leaf::Progress;
 use walk::turn;
 use walk::turn::Entered;
-
-// The ids named so far and where the last entry of them ends; or why the list is refused.
-pub enum Progress {
-    On(usize, RowID),
-    Stopped(Refusal),
-}
-
-// How many entries the list names, all of them ending with the prefix; or why it is refused.
-pub enum Named {
-    Entries(u64),
-    Refused(Refusal),
-}
 
 // What the list names, the path to the leaf of the last entry named, and how many entries of that leaf are named. On the
 // path each position but the last stands at the entry after the one that leads down.
@@ -44,71 +35,6 @@ pub struct Prefix {
     pub answer: Named,
     pub path: Path,
     pub used: u64,
-}
-
-// The end of entry i of leaf n.
-fn entry_end(l: Layout, s: &[u64], n: NodeNo, i: u64) -> RowID
-    requires { ⌜ Fits l (now s) ⌝ }
-    requires { ⌜ (n .0 < l .pool) × (i < count (shapeOf l) (now s) (n .0)) × (count (shapeOf l) (now s) (n .0) ≤ l .capacity) ⌝ }
-    ensures { λ r. ⌜ r .0 ≡ entryEnd (shapeOf l) (now (s .entry)) (n .0) i ⌝ }
-{
-    let h = l.header(s, n);
-    if i + 1 < h.count {
-        return l.row(s, n, i + 1);
-    }
-    h.end_row_id
-}
-
-// The entries of node n, where it is a leaf, against the ids from this place on.
-fn scan_node(
-    l: Layout,
-    s: &[u64],
-    n: NodeNo,
-    end: RowID,
-    ids: &[u64],
-    place: usize,
-    reached: RowID,
-) -> Progress
-    requires { ⌜ Fits l (now s) ⌝ }
-    requires { ⌜ (n .0 < l .pool) × (count (shapeOf l) (now s) (n .0) ≤ l .capacity) ⌝ }
-    ensures { λ r. ⌜ progressOf (now (ids .entry)) r ≡ pick (eqb (height (shapeOf l) (now (s .entry)) (n .0)) 0) (scanLeaf (shapeOf l) (now (s .entry)) (end .0) (n .0) 0 (count (shapeOf l) (now (s .entry)) (n .0)) (on (drop place (now (ids .entry))) place (reached .0))) (on (drop place (now (ids .entry))) place (reached .0)) ⌝ }
-{
-    let h = l.header(s, n);
-    if !h.is_leaf() {
-        return Progress::On(place, reached);
-    }
-    let count = h.count;
-    let mut at = place;
-    let mut to = reached;
-    let mut i: u64 = 0;
-    while i < count {
-        if ids.len() <= at {
-            return Progress::On(at, to);
-        }
-        let page = l.page(s, n, i);
-        if page.0 != ids[at] {
-            return Progress::Stopped(Refusal::PageDiffers(at as u64));
-        }
-        let next = entry_end(l, s, n, i);
-        if end.0 < next.0 {
-            return Progress::Stopped(Refusal::EndDiffers(at as u64));
-        }
-        at += 1;
-        to = next;
-        i += 1;
-    }
-    Progress::On(at, to)
-}
-
-// What a list comes to that is used.
-fn finish(end: RowID, named: usize, reached: RowID) -> Named
-    ensures answer { λ r. ⌜ namedOf (end .0) r ≡ ranOut (end .0) (on [] named (reached .0)) ⌝ }
-    ensures ends { λ r. ⌜ EndsAt (end .0) (reached .0) r ⌝ }
-{
-    if reached.0 != end.0 {
-        return Named::Refused(Refusal::EndDiffers(named as u64));
-    }
-    Named::Entries(named as u64)
 }
 
 // The leaves below a node that was entered, against the ids from this place on. The path is stored to in place.
@@ -144,7 +70,7 @@ fn scan_below(
     let mut last = used;
     while 0 < path.depth {
         if ids.len() <= named {
-            let answer = finish(end, named, to);
+            let answer = prefix_leaf::finish(end, named, to);
             return Prefix {
                 answer,
                 path,
@@ -189,7 +115,7 @@ fn scan_below(
                     nexts[depth] = beyond;
                     firsts[depth] = inner;
                     path.depth = depth + 1;
-                    match scan_node(l, s, child, end, ids, named, to) {
+                    match prefix_leaf::scan_node(l, s, child, end, ids, named, to) {
                         Progress::Stopped(r) => {
                             return Prefix {
                                 answer: Named::Refused(r),
@@ -223,7 +149,7 @@ pub fn scan_tree(l: Layout, s: &[u64], root: NodeNo, first: u64, end: RowID, ids
     ensures answer { λ r. ⌜ namedOf (end .0) (r .answer) ≡ ranOut (end .0) (scan (shapeOf l) (now (s .entry)) (end .0) (visits false (shapeOf l) (l .pool) (suc (height (shapeOf l) (now (s .entry)) (root .0))) (root .0) (level (shapeOf l) (now (s .entry)) (suc (height (shapeOf l) (now (s .entry)) (root .0))) (root .0)) (start (shapeOf l) (now (s .entry)) (root .0)) Open) (on (now (ids .entry)) 0 0)) ⌝ }
     ensures edge { λ r. ⌜ Ending (shapeOf l) (l .pool) (now (s .entry)) (end .0) (root .0) r ⌝ }
 {
-    match scan_node(l, s, root, end, ids, 0, RowID(0)) {
+    match prefix_leaf::scan_node(l, s, root, end, ids, 0, RowID(0)) {
         Progress::Stopped(r) => Prefix {
             answer: Named::Refused(r),
             path: Path::new(),

@@ -19,12 +19,13 @@ use Rattle.node.specs.declared.header.StoreHeader.{StoreHeader}
 use Rattle.node.specs.declared.header.Opened.the-variants.{Refused}
 use Rattle.node.proofs.Opened.{IsOpen, is-refused, goes-on}
 use Rattle.model.proofs.Answers.{is-refusal}
-use Rattle.prefix.specs.Named.{stoppedBy, namedOf, Ended, endingOf, Ending}
+use Rattle.prefix.specs.Named.{Ended, endingOf, Ending}
+use Rattle.prefix_leaf.specs.Progress.{stoppedBy, namedOf}
 use Rattle.prefix.specs.declared.Prefix.{Prefix}
-use Rattle.prefix.specs.declared.Named.{Named}
-use Rattle.prefix.specs.declared.Named.the-variants.{Entries}
-use Rattle.prefix.specs.declared.Named.the-variants as Variants
-use Rattle.prune.specs.Found.{InStore, Rooted, cutAt, pruneAt}
+use Rattle.prefix_leaf.specs.declared.Named.{Named}
+use Rattle.prefix_leaf.specs.declared.Named.the-variants.{Entries}
+use Rattle.prefix_leaf.specs.declared.Named.the-variants as Variants
+use Rattle.prune_write.specs.Found.{InStore, Rooted, cutAt, pruneAt}
 
 abbrev refuses : List ℕ → Answer → Outcome
 refuses w a = record { answer = a; words = w }

@@ -1,6 +1,2 @@
-pub mod Outside
-pub mod Written
-pub mod Edges
-pub mod Outcomes
 pub mod Deciding
 pub mod Unique

@@ -4,6 +4,7 @@
 // wrong lists are tried, which must be refused by number and detail and change no word. A line for each capacity: trees,
 // first cuts, second cuts, nodes freed, levels collapsed, lists refused, and what was wrong.
 
+use answer_numbers;
 use libc::STDOUT_FILENO;
 use model::answer::Checked;
 use model::answer::Created;
@@ -177,7 +178,7 @@ fn is_refused(answer: Pruned, no: u64, with: u64) -> bool {
     match answer {
         Pruned::Done(_) => false,
         Pruned::Refused(r) => {
-            let n = answers::number_of(r);
+            let n = answer_numbers::number_of(r);
             if n.0 != no {
                 return false;
             }

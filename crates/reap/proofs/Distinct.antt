@@ -18,7 +18,7 @@ use Rattle.reap.proofs.Right.{right-of}
 use Rattle.model.specs.Paths.{lastOf, above}
 use Rattle.model.specs.declared.path.Position.{Position}
 use Rattle.model.specs.declared.path.Path.{Path}
-use Rattle.prefix.specs.Behind.{Done, Above, Behind}
+use Rattle.prefix_leaf.specs.Behind.{Done, Above, Behind}
 use Rattle.edge.specs.Edge.{Meets, trimsUp, Climbed}
 use Rattle.trim.specs.Picks.{picks}
 use Rattle.reap.proofs.Joined.{beside, spine-up, top-height, edge-picks}

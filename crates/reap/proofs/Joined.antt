@@ -19,7 +19,7 @@ use Rattle.model.proofs.Sound.{soundly}
 use Rattle.model.proofs.Frame.{length-pairs}
 use Rattle.model.proofs.Paths.{stack-pop}
 use Rattle.walk.specs.Left.{bound}
-use Rattle.prefix.specs.Behind.{Passed, limitAt, Done, Above, Behind}
+use Rattle.prefix_leaf.specs.Behind.{Passed, limitAt, Done, Above, Behind}
 use Rattle.prefix.proofs.Traces.{tall}
 use Rattle.edge.specs.Edge.{at, firstPairs, firstNodes, trimsUp, goneUp, Cutting, edgeTrims, edgeGone, Climbed}
 use Rattle.edge.proofs.Boundary.{rows-of}

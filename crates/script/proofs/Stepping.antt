@@ -18,25 +18,10 @@ use Rattle.records.specs.declared.Head.the-variants as H
 use Rattle.records.proofs.Heads.{within, wholly, badly}
 use Rattle.lines.specs.Names.{freeName}
 use Rattle.calls.specs.Calls.{Memory, perform}
-use Rattle.calls.proofs.Short.{line-short, short}
+use Rattle.script_walk.proofs.Short.{line-short, short}
 use Rattle.script.specs.Script.{listingFrom, listingOf, turn}
 use Rattle.calls.specs.Steps.{memory, Does}
 use Rattle.calls.specs.declared.Progress.{Progress}
-
-pub first-bad : (bs : List ℕ) → H.Bad ≡ headOf bs → first bs ≡ Bad
-unfolding first
-first-bad bs e = rw (badly bs e)
-
-first-whole : (bs : List ℕ) (n : ℕ) → H.Whole n ≡ headOf bs → first bs ≡ asked (take n (drop 4 bs))
-unfolding first
-first-whole bs n e = let w = wholly bs n e in rw (w .whole, w .is)
-
--- the body as it is cut out, and what it was found to ask for
-pub first-meant : (bs : List ℕ) (n : ℕ) → H.Whole n ≡ headOf bs → (x : Call) → x ≡ asked (take (4 + n - 4) (drop 4 bs)) → first bs ≡ x
-first-meant bs n h x e = let k : 4 + n - 4 ≡ n = omega arith in first-whole bs n h ∙ sym (rw k at e)
-
-pub body-short : (bs : List ℕ) (n : ℕ) → H.Whole n ≡ headOf bs → length (take (4 + n - 4) (drop 4 bs)) ≤ 4096
-body-short bs n h = omega (arith, length-take (4 + n - 4) (drop 4 bs), wholly bs n h .short)
 
 pub goes-whole : (m : Memory) (bs : List ℕ) → perform m (first bs) .goes ≡ true → whole bs ≡ true
 unfolding first perform

@@ -8,81 +8,11 @@ ghost use lib.ListN.{drop, length, take};
 ghost use Rattle.model.specs.Words.{freeCount};
 ghost use Rattle.text.specs.Lines.{Puts, capped, line};
 ghost use Rattle.lines.specs.Names.{freeName};
-ghost use Rattle.records.specs.Records.{bodyLength, first, whole};
-ghost use Rattle.records.specs.Records as R;
-ghost use Rattle.records.specs.Read.{bodyWords, meant};
-ghost use Rattle.calls.specs.Calls.{perform};
+ghost use Rattle.records.specs.Records.{bodyLength, whole};
 ghost use Rattle.calls.specs.Steps.{Does, memory};
 ghost use Rattle.script.specs.Script.{listing, listingFrom, turn};
 use calls::Progress;
-use model::id::RowID;
-use records::Head;
-use records::Record;
-
-// The page ids stand in the body.
-fn prune_step(
-    s: &mut [u64],
-    used: usize,
-    start: u64,
-    end: u64,
-    body: &[u8],
-    out: &mut [u8],
-    at: usize,
-) -> Progress
-    requires { ⌜ (used ≤ length (now s)) × (length (now body) ≤ 4096) ⌝ }
-    ensures { λ r. ⌜ Does (perform (memory (now (s .entry)) used) (R.Prune start end (drop 2 (bodyWords (now (body .entry)))))) (now (out .entry)) at (now (s .exit)) (now (out .exit)) r ⌝ }
-{
-    let mut ids = [0u64; 512];
-    let k = records::copy_ids(body, &mut ids);
-    let a = prune::prune_checkpoint_prefix(&mut s[..used], RowID(start), RowID(end), &ids[..k]);
-    let place = lines::put_pruned(out, at, a);
-    Progress {
-        used,
-        at: place,
-        goes: true,
-    }
-}
-
-// Whatever a record asks for, with its body.
-fn perform_record(
-    s: &mut [u64],
-    used: usize,
-    asked: Record,
-    body: &[u8],
-    out: &mut [u8],
-    at: usize,
-) -> Progress
-    requires { ⌜ (used ≤ length (now s)) × (length (now body) ≤ 4096) ⌝ }
-    ensures { λ r. ⌜ Does (perform (memory (now (s .entry)) used) (meant (now (body .entry)) asked)) (now (out .entry)) at (now (s .exit)) (now (out .exit)) r ⌝ }
-{
-    match asked {
-        Record::Create(capacity, nodes, start) => {
-            calls::create_step(s, used, capacity, nodes, start, out, at)
-        }
-        Record::Append(count, page) => calls::append_step(s, used, count, page, out, at),
-        Record::Find(row) => calls::find_step(&s[..], used, row, out, at),
-        Record::Prune(start, end) => prune_step(s, used, start, end, body, out, at),
-        Record::Walk(row) => calls::walk_step(&s[..], used, row, out, at),
-        Record::Release(pivot) => calls::release_step(s, used, pivot, out, at),
-        Record::Bad => calls::bad_step(used, out, at),
-    }
-}
-
-// The record that bytes begin with: what it does to the words, and its lines.
-pub fn step(s: &mut [u64], used: usize, bytes: &[u8], out: &mut [u8], at: usize) -> Progress
-    requires { ⌜ used ≤ length (now s) ⌝ }
-    ensures { λ r. ⌜ Does (perform (memory (now (s .entry)) used) (first (now (bytes .entry)))) (now (out .entry)) at (now (s .exit)) (now (out .exit)) r ⌝ }
-{
-    match records::read_head(bytes) {
-        Head::Bad => calls::bad_step(used, out, at),
-        Head::Whole(len) => {
-            let end = 4 + len;
-            let body = &bytes[4..end];
-            let asked = records::read_body(body);
-            perform_record(s, used, asked, body, out, at)
-        }
-    }
-}
+use script_step;
 
 // The bytes of a whole record.
 fn record_length(bytes: &[u8]) -> usize
@@ -116,7 +46,7 @@ pub fn turn_step(s: &mut [u64], used: usize, bytes: &[u8], out: &mut [u8]) -> Pr
             goes: false,
         };
     }
-    step(s, used, bytes, out, 0)
+    script_step::step(s, used, bytes, out, 0)
 }
 
 // A whole script, on these words.
@@ -129,7 +59,7 @@ fn run_on(s: &mut [u64], script: &[u8], out: &mut [u8]) -> usize
     let mut pos: usize = 0;
     while pos < script.len() {
         let rest = &script[pos..];
-        let t = step(s, used, rest, out, at);
+        let t = script_step::step(s, used, rest, out, at);
         at = t.at;
         if !t.goes {
             return at;

@@ -1,7 +1,10 @@
 // The calls on the compiled library, a line for each call: the answer's values, or `no`, the refusal's number
 // and its detail. The lines are held to the file stdout.
 
+use answer_numbers;
 use byvalue;
+use destroy_empty;
+use leaf_step;
 use libc::STDOUT_FILENO;
 use model::answer::Checked;
 use model::answer::Created;
@@ -35,7 +38,7 @@ fn print_line(a: u64, b: u64, c: u64) {
 fn print_refusal(r: Refusal) {
     let no = [b'n', b'o', b' '];
     io::write_all(STDOUT_FILENO, &no);
-    let n = answers::number_of(r);
+    let n = answer_numbers::number_of(r);
     io::print_decimal(STDOUT_FILENO, n.0);
     print_space();
     io::print_decimal(STDOUT_FILENO, n.1);
@@ -286,11 +289,7 @@ fn walk_on(s: &[u64], cursor: RowPageIndexMemCursor, list: &mut [u64]) {
 // A walk from a row, with lists of two records.
 fn walk(s: &[u64], row: u64) {
     let mut list = [0u64; 4];
-    walk_on(
-        s,
-        byvalue::seek_value(RowPageIndexMemCursor::new(), RowID(row)),
-        &mut list,
-    );
+    walk_on(s, leaf_step::sought(RowID(row)), &mut list);
 }
 
 // The full check: entries, tree nodes, free nodes.
@@ -338,11 +337,7 @@ fn walk_nine(s: &[u64]) {
     let mut list = [0u64; 4];
     walk_on(s, RowPageIndexMemCursor::new(), &mut list);
     let mut short = [0u64; 3];
-    walk_on(
-        s,
-        byvalue::seek_value(RowPageIndexMemCursor::new(), RowID(0)),
-        &mut short,
-    );
+    walk_on(s, leaf_step::sought(RowID(0)), &mut short);
 }
 
 // Walks of an empty root, of nine pages, and over a leaf that is unsound.
@@ -399,7 +394,7 @@ fn release_nine(s: &mut [u64]) {
     let mut pages = [0u64; 10];
     print_release(destroy::destroy(s, RowID(1), &mut pages));
     print_release(destroy::destroy(s, RowID(0), &mut short));
-    print_release(destroy::destroy_empty(s));
+    print_release(destroy_empty::destroy_empty(s));
     print_release(destroy::destroy(s, RowID(0), &mut pages));
     print_line(pages[0], pages[8], pages[9]);
 }
@@ -410,7 +405,7 @@ fn closed(s: &mut [u64]) {
     append(s, 10, 1);
     walk(s, 0);
     check(s);
-    print_release(destroy::destroy_empty(s));
+    print_release(destroy_empty::destroy_empty(s));
 }
 
 fn releases(s: &mut [u64]) {
@@ -418,7 +413,7 @@ fn releases(s: &mut [u64]) {
     release_nine(s);
     closed(s);
     make(s, 2, 16, 7);
-    print_release(destroy::destroy_empty(s));
+    print_release(destroy_empty::destroy_empty(s));
     closed(s);
 }
 

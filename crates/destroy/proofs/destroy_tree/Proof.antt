@@ -9,7 +9,7 @@ use Rattle.node.specs.Layout.{shapeOf}
 use Rattle.model.specs.Words.{freeAll}
 use Rattle.model.specs.Reading.{rootNodes}
 use Rattle.model.specs.Release.{releasedWords}
-use Rattle.destroy.proofs.Taking.{ready}
+use Rattle.release_pages.proofs.Taking.{ready}
 use Rattle.destroy.proofs.destroy_tree.Statement.{statement}
 use Rattle.destroy.proofs.destroy_tree.Tie as tie
 

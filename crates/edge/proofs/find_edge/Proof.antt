@@ -4,7 +4,7 @@ use mathlib.Core.Path.{_≡_, refl, sym, ap, _∙_}
 use native.Mathlib.Omega.{arith}
 use Rattle.node.specs.Layout.{shapeOf}
 use Rattle.model.specs.Paths.{lastOf}
-use Rattle.prefix.specs.Behind.{Behind}
+use Rattle.prefix_leaf.specs.Behind.{Behind}
 use Rattle.edge.specs.Edge.{Climbed}
 use Rattle.model.specs.declared.node.RowPageIndexNodeHeader.{RowPageIndexNodeHeader}
 use Rattle.edge.proofs.Climbs.{depth-low, start-climb, node-in, climb, keeps-some, at-root}

@@ -5,11 +5,11 @@ use mathlib.Core.Path.{_≡_, sym, ap, _∙_}
 use lib.ListN.{getD}
 use Rattle.model.specs.Words.{fill}
 use Rattle.model.specs.Refusals.{Answer}
-use Rattle.answers.specs.Numbers.{answerWords}
+use Rattle.answer_numbers.specs.Numbers.{answerWords}
 use Rattle.model.specs.declared.cursor.RowPageIndexMemCursor.{RowPageIndexMemCursor}
 use Rattle.byvalue.specs.Written.{nextWordsOf, WordOutcome}
 use Rattle.byvalue.proofs.Equation.{words-are}
-use Rattle.host.specs.Cursors.{cursorIn, cursorAfter}
+use Rattle.host_cursor.specs.Cursors.{cursorIn, cursorAfter}
 use Rattle.host.proofs.row_page_index_next.Statement.{statement}
 use Rattle.host.proofs.row_page_index_next.Tie as tie
 

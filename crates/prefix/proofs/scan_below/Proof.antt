@@ -19,7 +19,8 @@ use Rattle.walk.proofs.Valid.{valid-top}
 use Rattle.walk.proofs.Branch.{went, barred, branch}
 use Rattle.walk.proofs.InPlace.{rooted-left}
 use Rattle.survey.proofs.Going.{less-out, inside, ranged, narrow, less-in}
-use Rattle.prefix.specs.Named.{progressOf, Ending}
+use Rattle.prefix.specs.Named.{Ending}
+use Rattle.prefix_leaf.specs.Progress.{progressOf}
 use Rattle.prefix.proofs.Scanning.{Scanning, start-scanning, used, used-ending, done, scanning-out, low, scanning-far, scanning-bad, scanning-stop, scanning-on, scanning-in}
 use Rattle.prefix.proofs.scan_below.Statement.{statement}
 use Rattle.prefix.proofs.scan_below.Tie as tie

@@ -13,7 +13,7 @@ use Rattle.model.specs.Paths.{entered}
 use Rattle.walk.specs.Left.{rest}
 use Rattle.walk.proofs.Rest.{passes-fits}
 use Rattle.survey.proofs.FromRoot.{root-valid}
-use Rattle.prefix.specs.Named.{progressOf}
+use Rattle.prefix_leaf.specs.Progress.{progressOf}
 use Rattle.prefix.proofs.Scanning.{tree-scan, tree-stopped, root-last, root-passed}
 use Rattle.prefix.specs.Named.{Ending}
 use Rattle.prefix.proofs.scan_tree.Statement.{statement}

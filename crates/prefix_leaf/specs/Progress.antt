@@ -1,0 +1,31 @@
+-- The entries of a leaf against the list, as the code answers it.
+use Prim.Native.Nat.{ℕ}
+use mathlib.Core.Path.{_≡_}
+use mathlib.Core.List.{List, []}
+use lib.ListN.{drop}
+use Rattle.model.specs.Refusals.{Answer, result, refused, refusal}
+use Rattle.model.specs.Prune.{Scan, stopped, on}
+use Rattle.prefix_leaf.specs.declared.Progress.{Progress}
+use Rattle.prefix_leaf.specs.declared.Progress.the-variants.{On, Stopped}
+use Rattle.prefix_leaf.specs.declared.Named.{Named}
+use Rattle.prefix_leaf.specs.declared.Named.the-variants.{Entries, Refused}
+
+-- a check that was refused so
+abbrev pub stoppedBy : Answer → Scan
+stoppedBy (result xs) = stopped 0 0
+stoppedBy (refused a d) = stopped a d
+
+-- the ids left are those from the place on
+abbrev pub progressOf : List ℕ → Progress → Scan
+progressOf ids (On p c) = on (drop p ids) p (c .0)
+progressOf ids (Stopped r) = stoppedBy (refusal r)
+
+-- no ids are left, and the last entry ends at e
+abbrev pub namedOf : ℕ → Named → Scan
+namedOf e (Entries k) = on [] k e
+namedOf e (Refused r) = stoppedBy (refusal r)
+
+-- a list is accepted where the last entry named ends at e
+unfoldable pub EndsAt : ℕ → ℕ → Named → Type 0
+EndsAt e c (Entries k) = c ≡ e
+EndsAt e c (Refused r) = Unit {0}

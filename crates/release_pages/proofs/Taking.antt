@@ -1,0 +1,135 @@
+-- The walk that takes page ids: what it knows at each turn, and what a turn keeps. No node is freed, so the walk of
+-- reclaim is at none of none.
+use Prim.Native.Nat.{ℕ, suc, _+_, _<_, _≤_}
+use mathlib.Core.List.{List, [], _∷_, _++_}
+use mathlib.Core.Bool.{true, false}
+use mathlib.Core.Path.{_≡_, refl, sym, ap, _∙_, subst}
+use mathlib.Core.Logic.{_⊎_, inl, inr}
+use native.Mathlib.Omega.{arith}
+use lib.ListN.{length, length-append}
+use lib.Dec.{T}
+use Rattle.model.specs.Words.{Shape, fill, height, count, start, child, maxHeight, freeAll}
+use Rattle.model.specs.Tree.{Open, AllSound}
+use Rattle.model.specs.Reading.{Visit, Leave, occ, Entry, pageIds, rootEntries, rootTree}
+use Rattle.model.specs.WellFormed.{SoundRoot, emptyTree, soundTree}
+use Rattle.model.specs.Paths.{stack, lastOf}
+use Rattle.model.specs.declared.path.Path.{Path}
+use Rattle.model.proofs.Writes.{occ-cons}
+use Rattle.formed.proofs.Clean.{clean}
+use Rattle.formed.proofs.Tally.{left as lefts}
+use Rattle.walk.specs.Left.{lowest, left, ValidPath, Moves}
+use Rattle.walk.specs.Turn.{hasChild}
+use Rattle.walk.proofs.Rest.{left-none}
+use Rattle.walk.proofs.Branch.{move-out}
+use Rattle.walk.proofs.InPlace.{rooted, rooted-left, popped, enteredPath}
+use Rattle.reclaim.specs.Ready.{Ready}
+use Rattle.reclaim.proofs.Freeing.{Freeable, enough, sound-in, goes-in}
+use Rattle.reclaim.proofs.Root.{start-freeing}
+use Rattle.release_pages.specs.Pages.{pagesAt, pagesOf}
+use Rattle.release_pages.specs.Releasable.{Releasable}
+use Rattle.model.proofs.Fill.{fill-append, length-fill}
+use Rattle.release_pages.proofs.Found.{rest-pages}
+
+pub ready : {C : Shape} {P : ℕ} {w : List ℕ} {n k : ℕ} → Releasable C P w n k → Ready C P w n k
+ready {C} {P} {w} {n} {k} d = record { header = d .header; inside = d .inside; high = high (d .sound); sound = sound (d .sound); room = d .room }
+  where
+    high : SoundRoot C P w (height C w n) n → height C w n ≤ maxHeight
+    high (emptyTree e) = omega (arith, e .leaf)
+    high (soundTree l g) = l
+
+    sound : SoundRoot C P w (height C w n) n → ((height C w n ≡ 0) × (count C w n ≡ 0)) ⊎ AllSound C P (suc (height C w n)) (rootTree C w n) (start C w n) Open
+    sound (emptyTree e) = inl (e .leaf, e .none)
+    sound (soundTree l g) = inr g
+
+-- L is the list at the end; the next page goes to place a of list l
+pub record Taking (C : Shape) (P : ℕ) (w L : List ℕ) (p : Path) (l : List ℕ) (a : ℕ) : Type 0 where
+  pub walk : Freeable C P w 0 0 w p
+  pub told : L ≡ fill l a (pagesOf C w (left false C P w p))
+  pub room : a + length (pagesOf C w (left false C P w p)) ≤ length l
+
+pub record Takes (C : Shape) (P : ℕ) (w L : List ℕ) (p q : Path) (l : List ℕ) (a : ℕ) : Type 0 where
+  pub taking : Taking C P w L q l a
+  pub less : length (left false C P w q) < length (left false C P w p)
+
+ids-length : (es : List Entry) → length (pageIds es) ≡ length es
+ids-length [] = refl
+ids-length (e ∷ es) = ap suc (ids-length es)
+
+module _ (C : Shape) (P : ℕ) (w : List ℕ) (n : ℕ) (l : List ℕ) (d : Releasable C P w n 0) where
+  walks : Freeable C P w 0 0 w (rooted n)
+  walks = let f = start-freeing C P w n 0 (ready d) in subst (λ (v : List ℕ). Freeable C P v 0 0 w (rooted n)) (sym (enough f (omega arith))) f
+
+  all-pages : pagesOf C w (left false C P w (rooted n)) ≡ pageIds (rootEntries C w n)
+  unfolding ValidPath lowest stack
+  all-pages = ap (pagesOf C w) (rooted-left false C P w n (walks .valid)) ∙ rest-pages C P w n (d .inside) (d .sound)
+
+  pub start-taking : length (rootEntries C w n) ≤ length l → Taking C P w (fill l 0 (pageIds (rootEntries C w n))) (rooted n) l 0
+  start-taking h =
+      record {
+        walk = walks;
+        told = ap (fill l 0) (sym all-pages);
+        room = omega (arith, h, ap length all-pages, ids-length (rootEntries C w n));
+      }
+
+module _ {C : Shape} {P : ℕ} {w L : List ℕ} {p : Path} {l : List ℕ} {a : ℕ} (t : Taking C P w L p l a) where
+  pub all-taken : p .depth ≤ 0 → l ≡ L
+  unfolding fill pagesOf
+  all-taken z = sym (t .told ∙ ap (λ (vs : List Visit). fill l a (pagesOf C w vs)) (left-none false C P w p (omega arith)))
+
+  module _ (z : 0 < p .depth) where
+    abbrev node : ℕ
+    node = lastOf p .node .0
+
+    -- a node is left
+    module _ (e : hasChild C w (lastOf p .node .0) (lastOf p .index) ≡ false) where
+      out : Moves false C P w p (Leave node) (popped p)
+      out = move-out false C P w p (t .walk .valid) z (popped p) e refl
+
+      found : pagesOf C w (left false C P w p) ≡ pagesAt C w node ++ pagesOf C w (left false C P w (popped p))
+      unfolding pagesOf
+      found = ap (pagesOf C w) (out .one)
+
+      both : length (pagesOf C w (left false C P w p)) ≡ length (pagesAt C w node) + length (pagesOf C w (left false C P w (popped p)))
+      both = ap length found ∙ length-append (pagesAt C w node) (pagesOf C w (left false C P w (popped p)))
+
+      pub leaf-room : a + length (pagesAt C w (lastOf p .node .0)) ≤ length l
+      leaf-room = omega (arith, both, t .room)
+
+      walk-out : Freeable C P w 0 0 w (popped p)
+      unfolding clean lefts freeAll
+      walk-out =
+          let f = t .walk in
+          record {
+            header = f .header;
+            valid = out .valid;
+            all-clean = subst (λ (vs : List Visit). T (clean vs)) (out .one) (f .all-clean);
+            once-each = λ m. (let o = subst (λ (vs : List Visit). occ m (lefts vs) ≤ 1) (out .one) (f .once-each m) in omega (arith, o, occ-cons m node (lefts (left false C P w (popped p)))));
+            room = f .room;
+            long = f .long;
+            told = refl;
+          }
+
+      pub takes-out : Takes C P w L p (popped p) (fill l a (pagesAt C w (lastOf p .node .0))) (a + length (pagesAt C w (lastOf p .node .0)))
+      takes-out =
+          record {
+            taking = record {
+              walk = walk-out;
+              told = t .told ∙ ap (fill l a) found ∙ fill-append l a (pagesAt C w node) (pagesOf C w (left false C P w (popped p)));
+              room = omega (arith, both, t .room, length-fill l a (pagesAt C w node));
+            };
+            less = omega (arith, ap length (out .one));
+          }
+
+    -- a child is entered
+    pub takes-in : (e : hasChild C w (lastOf p .node .0) (lastOf p .index) ≡ true) → Takes C P w L p (enteredPath p (child C w (lastOf p .node .0) (lastOf p .index))) l a
+    unfolding pagesOf
+    takes-in e =
+        let m = sound-in (t .walk) z e in
+        record {
+          taking = record {
+            walk = goes-in (t .walk) z e .free;
+            told = t .told ∙ ap (λ (vs : List Visit). fill l a (pagesOf C w vs)) (m .one);
+            room = omega (arith, t .room, ap (λ (vs : List Visit). length (pagesOf C w vs)) (m .one));
+          };
+          less = omega (arith, ap length (m .one));
+        }

@@ -1,0 +1,62 @@
+// A script's create.
+
+ghost use mathlib.Core.Path.{_≡_};
+ghost use lib.ListN.{length};
+ghost use Rattle.model.specs.Refusals.{created};
+ghost use Rattle.records.specs.Records as R;
+ghost use Rattle.calls.specs.Calls.{createLength, ifAccepted, perform};
+ghost use Rattle.calls.specs.Steps.{Does, memory};
+use calls::Progress;
+use model::answer::Created;
+use model::id::RowID;
+use node::layout::Layout;
+
+// The words that a create gets, of so many.
+fn create_length(all: usize, capacity: u64, nodes: u64) -> usize
+    ensures { λ r. ⌜ r ≡ createLength all capacity nodes ⌝ }
+{
+    let l = Layout {
+        capacity,
+        pool: nodes,
+    };
+    let good = l.in_range();
+    if !good {
+        return all;
+    }
+    let len = l.store_length() as usize;
+    if all < len {
+        return all;
+    }
+    len
+}
+
+// The length that later calls get: of an accepted create, else the former one.
+fn used_after(a: Created, len: usize, used: usize) -> usize
+    ensures { λ r. ⌜ r ≡ ifAccepted (created a) len used ⌝ }
+{
+    match a {
+        Created::Done => len,
+        Created::Refused(_) => used,
+    }
+}
+
+pub fn create_step(
+    s: &mut [u64],
+    used: usize,
+    capacity: u64,
+    nodes: u64,
+    start: u64,
+    out: &mut [u8],
+    at: usize,
+) -> Progress
+    ensures { λ r. ⌜ Does (perform (memory (now (s .entry)) used) (R.Create capacity nodes start)) (now (out .entry)) at (now (s .exit)) (now (out .exit)) r ⌝ }
+{
+    let len = create_length(s.len(), capacity, nodes);
+    let a = create::new(&mut s[..len], capacity, nodes, RowID(start));
+    let place = lines::put_created(out, at, a);
+    Progress {
+        used: used_after(a, len, used),
+        at: place,
+        goes: true,
+    }
+}

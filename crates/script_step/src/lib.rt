@@ -1,0 +1,54 @@
+// One record of a script.
+
+ghost use Prim.Native.Nat.{_+_, _≤_};
+ghost use lib.ListN.{length};
+ghost use Rattle.records.specs.Records.{first};
+ghost use Rattle.records.specs.Read.{meant};
+ghost use Rattle.calls.specs.Calls.{perform};
+ghost use Rattle.calls.specs.Steps.{Does, memory};
+use calls::Progress;
+use records::Head;
+use records::Record;
+use script_create;
+use script_walk;
+
+// Whatever a record asks for, with its body.
+fn perform_record(
+    s: &mut [u64],
+    used: usize,
+    asked: Record,
+    body: &[u8],
+    out: &mut [u8],
+    at: usize,
+) -> Progress
+    requires { ⌜ (used ≤ length (now s)) × (length (now body) ≤ 4096) ⌝ }
+    ensures { λ r. ⌜ Does (perform (memory (now (s .entry)) used) (meant (now (body .entry)) asked)) (now (out .entry)) at (now (s .exit)) (now (out .exit)) r ⌝ }
+{
+    match asked {
+        Record::Create(capacity, nodes, start) => {
+            script_create::create_step(s, used, capacity, nodes, start, out, at)
+        }
+        Record::Append(count, page) => calls::append_step(s, used, count, page, out, at),
+        Record::Find(row) => calls::find_step(&s[..], used, row, out, at),
+        Record::Prune(start, end) => calls::prune_step(s, used, start, end, body, out, at),
+        Record::Walk(row) => script_walk::walk_step(&s[..], used, row, out, at),
+        Record::Release(pivot) => calls::release_step(s, used, pivot, out, at),
+        Record::Bad => calls::bad_step(used, out, at),
+    }
+}
+
+// The record that bytes begin with: what it does to the words, and its lines.
+pub fn step(s: &mut [u64], used: usize, bytes: &[u8], out: &mut [u8], at: usize) -> Progress
+    requires { ⌜ used ≤ length (now s) ⌝ }
+    ensures { λ r. ⌜ Does (perform (memory (now (s .entry)) used) (first (now (bytes .entry)))) (now (out .entry)) at (now (s .exit)) (now (out .exit)) r ⌝ }
+{
+    match records::read_head(bytes) {
+        Head::Bad => calls::bad_step(used, out, at),
+        Head::Whole(len) => {
+            let end = 4 + len;
+            let body = &bytes[4..end];
+            let asked = records::read_body(body);
+            perform_record(s, used, asked, body, out, at)
+        }
+    }
+}

@@ -1,0 +1,3 @@
+pub mod Lined
+pub mod Chosen
+pub mod Walk

@@ -1,0 +1,1 @@
+// Laws of whole walks over the leaves.
