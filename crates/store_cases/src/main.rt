@@ -1,6 +1,8 @@
 // The calls on the compiled library, a line for each call: the answer's values, or `no`, the refusal's number
 // and its detail. The lines are held to the file stdout.
 
+mod words;
+
 use byvalue;
 use libc::STDOUT_FILENO;
 use model::answer::Checked;
@@ -169,12 +171,13 @@ fn find_damaged(s: &mut [u64], i: usize, x: u64) {
     find_row(s, 25);
 }
 
-// The right leaf's count; a child number out of range; the root's height; a closed store; the header; a store of seven
-// words.
+// The right leaf's count; a child number out of range; the root's height and count, below its start too; a closed store; the
+// header; a store of seven words.
 fn damaged_paths(s: &mut [u64]) {
     find_damaged(s, 25, 3);
     find_damaged(s, 15, 77);
     find_damaged(s, 8, 32);
+    find_damaged(s, 9, 3);
     find_damaged(s, 2, 16);
     find_damaged(s, 1, 15);
     let short = [2u64; 7];
@@ -206,14 +209,21 @@ fn row_limits(s: &mut [u64]) {
     make(s, 2, 16, (1 << 62) + 1);
 }
 
-// A right edge that is full up to height 31: 6 comes before 5.
+// A right edge that is full up to height 31: 6 comes before 5. A root of height 30 needs 32 nodes; one of height 32 is
+// unsound.
 fn height_limit() {
     let mut tall = [0u64; 264];
     make(&mut tall, 2, 32, 0);
-    full_node(&mut tall, 0, 0, 31, 32, 40, 0);
+    full_node(&mut tall, 0, 0, 31, 32, 40, 9);
     full_branches(&mut tall);
     damage(&mut tall, 2, 31);
     append(&mut tall, 1, 1);
+    find_row(&tall, 35);
+    damage(&mut tall, 2, 30);
+    append(&mut tall, 1, 1);
+    damage(&mut tall, 2, 31);
+    damage_node(&mut tall, 31, 0, 32);
+    find_row(&tall, 35);
 }
 
 // Capacity, pool and length of a new store.
@@ -355,12 +365,17 @@ fn walks(s: &mut [u64]) {
     walk(s, 0);
 }
 
-// Five pages, word i damaged, and the full check.
-fn check_damaged(s: &mut [u64], i: usize, x: u64) {
+// Five pages.
+fn grow_five(s: &mut [u64]) {
     make(s, 2, 16, 0);
     append_two(s, 1, 2);
     append_two(s, 3, 4);
     append(s, 10, 5);
+}
+
+// Five pages, word i damaged, and the full check.
+fn check_damaged(s: &mut [u64], i: usize, x: u64) {
+    grow_five(s);
     damage(s, i, x);
     check(s);
 }
@@ -413,6 +428,15 @@ fn closed(s: &mut [u64]) {
     print_release(destroy::destroy_empty(s));
 }
 
+// A free count of P: there is no room for an empty root either.
+fn release_past_pool(s: &mut [u64]) {
+    let mut pages = [0u64; 1];
+    make(s, 2, 16, 7);
+    damage(s, 4, 16);
+    print_release(destroy::destroy_empty(s));
+    print_release(destroy::destroy(s, RowID(0), &mut pages));
+}
+
 fn releases(s: &mut [u64]) {
     grow_nine(s);
     release_nine(s);
@@ -420,6 +444,7 @@ fn releases(s: &mut [u64]) {
     make(s, 2, 16, 7);
     print_release(destroy::destroy_empty(s));
     closed(s);
+    release_past_pool(s);
 }
 
 // A prune, and its line.
@@ -436,10 +461,7 @@ fn cut(s: &mut [u64], start: u64, end: u64, ids: &[u64]) {
 
 // Five pages, word i damaged, and a prune.
 fn cut_damaged(s: &mut [u64], i: usize, x: u64, end: u64, ids: &[u64]) {
-    make(s, 2, 16, 0);
-    append_two(s, 1, 2);
-    append_two(s, 3, 4);
-    append(s, 10, 5);
+    grow_five(s);
     damage(s, i, x);
     cut(s, 0, end, ids);
     check(s);
@@ -508,6 +530,14 @@ fn lazy_cuts(s: &mut [u64]) {
     cut_damaged(s, 49, 3, 20, &two);
 }
 
+// The root's count comes before another start.
+fn cut_of_unsound_root(s: &mut [u64]) {
+    let two = [2u64];
+    grow_five(s);
+    damage(s, 9, 3);
+    cut(s, 10, 20, &two);
+}
+
 // An empty root, and a closed store.
 fn cuts_of_none(s: &mut [u64]) {
     let two = [1u64, 2];
@@ -525,7 +555,74 @@ fn all_cuts(s: &mut [u64]) {
     wrong_rows(s);
     damaged_cuts(s);
     lazy_cuts(s);
+    cut_of_unsound_root(s);
     cuts_of_none(s);
+}
+
+// Words after calls, on words that were all 7: a word that no rule names is a 7.
+fn created_words() {
+    let mut s = [7u64; 136];
+    make(&mut s, 2, 16, 5);
+    words::print_store(&s, 2);
+}
+
+fn appended_words() {
+    let mut s = [7u64; 136];
+    grow_five(&mut s);
+    words::print_store(&s, 7);
+}
+
+// Slots past a count keep what they held.
+fn trimmed_words() {
+    let mut s = [7u64; 136];
+    let three = [1u64, 2, 3];
+    grow_five(&mut s);
+    cut(&mut s, 0, 30, &three);
+    words::print_store(&s, 6);
+}
+
+// Copies take every word; the nodes that went are freed children first, then the copied ones, deepest first.
+fn collapsed_words() {
+    let mut s = [7u64; 136];
+    let four = [1u64, 2, 3, 4];
+    grow_five(&mut s);
+    cut(&mut s, 0, 40, &four);
+    words::print_store(&s, 6);
+}
+
+fn collapsed_nine_words() {
+    let mut s = [7u64; 136];
+    let eight = [1u64, 2, 3, 4, 5, 6, 7, 8];
+    grow_nine(&mut s);
+    cut(&mut s, 0, 80, &eight);
+    words::print_store(&s, 11);
+}
+
+// The root's slots keep what they held.
+fn reset_words() {
+    let mut s = [7u64; 136];
+    let five = [1u64, 2, 3, 4, 5];
+    grow_five(&mut s);
+    cut(&mut s, 0, 50, &five);
+    words::print_store(&s, 6);
+}
+
+fn released_words() {
+    let mut s = [7u64; 136];
+    let mut pages = [0u64; 5];
+    grow_five(&mut s);
+    print_release(destroy::destroy(&mut s, RowID(0), &mut pages));
+    words::print_store(&s, 6);
+}
+
+fn all_words() {
+    created_words();
+    appended_words();
+    trimmed_words();
+    collapsed_words();
+    collapsed_nine_words();
+    reset_words();
+    released_words();
 }
 
 fn main() {
@@ -541,4 +638,5 @@ fn main() {
     checks(&mut s);
     releases(&mut s);
     all_cuts(&mut s);
+    all_words();
 }
