@@ -560,69 +560,55 @@ fn all_cuts(s: &mut [u64]) {
 }
 
 // Words after calls, on words that were all 7: a word that no rule names is a 7.
-fn created_words() {
-    let mut s = [7u64; 136];
-    make(&mut s, 2, 16, 5);
-    words::print_store(&s, 2);
+fn created_words(s: &mut [u64]) {
+    words::fill_sevens(s);
+    make(s, 2, 16, 5);
+    words::print_store(s, 2);
 }
 
-fn appended_words() {
-    let mut s = [7u64; 136];
-    grow_five(&mut s);
-    words::print_store(&s, 7);
+// Five pages on sevens, and a prune of those named.
+fn cut_words(s: &mut [u64], end: u64, ids: &[u64]) {
+    words::fill_sevens(s);
+    grow_five(s);
+    cut(s, 0, end, ids);
+    words::print_store(s, 7);
 }
 
-// Slots past a count keep what they held.
-fn trimmed_words() {
-    let mut s = [7u64; 136];
+// A prune of no ids is refused; then slots past a count keep what they held; copies take every word, and the nodes that went
+// are freed children first, then the copied ones, deepest first; an empty root's slots keep what they held.
+fn all_cut_words(s: &mut [u64]) {
+    let none = [0u64; 0];
     let three = [1u64, 2, 3];
-    grow_five(&mut s);
-    cut(&mut s, 0, 30, &three);
-    words::print_store(&s, 6);
-}
-
-// Copies take every word; the nodes that went are freed children first, then the copied ones, deepest first.
-fn collapsed_words() {
-    let mut s = [7u64; 136];
     let four = [1u64, 2, 3, 4];
-    grow_five(&mut s);
-    cut(&mut s, 0, 40, &four);
-    words::print_store(&s, 6);
-}
-
-fn collapsed_nine_words() {
-    let mut s = [7u64; 136];
-    let eight = [1u64, 2, 3, 4, 5, 6, 7, 8];
-    grow_nine(&mut s);
-    cut(&mut s, 0, 80, &eight);
-    words::print_store(&s, 11);
-}
-
-// The root's slots keep what they held.
-fn reset_words() {
-    let mut s = [7u64; 136];
     let five = [1u64, 2, 3, 4, 5];
-    grow_five(&mut s);
-    cut(&mut s, 0, 50, &five);
-    words::print_store(&s, 6);
+    cut_words(s, 0, &none);
+    cut_words(s, 30, &three);
+    cut_words(s, 40, &four);
+    cut_words(s, 50, &five);
 }
 
-fn released_words() {
-    let mut s = [7u64; 136];
+// Three levels are copied.
+fn cut_nine_words(s: &mut [u64]) {
+    let eight = [1u64, 2, 3, 4, 5, 6, 7, 8];
+    words::fill_sevens(s);
+    grow_nine(s);
+    cut(s, 0, 80, &eight);
+    words::print_store(s, 11);
+}
+
+fn released_words(s: &mut [u64]) {
     let mut pages = [0u64; 5];
-    grow_five(&mut s);
-    print_release(destroy::destroy(&mut s, RowID(0), &mut pages));
-    words::print_store(&s, 6);
+    words::fill_sevens(s);
+    grow_five(s);
+    print_release(destroy::destroy(s, RowID(0), &mut pages));
+    words::print_store(s, 7);
 }
 
-fn all_words() {
-    created_words();
-    appended_words();
-    trimmed_words();
-    collapsed_words();
-    collapsed_nine_words();
-    reset_words();
-    released_words();
+fn all_words(s: &mut [u64]) {
+    created_words(s);
+    all_cut_words(s);
+    cut_nine_words(s);
+    released_words(s);
 }
 
 fn main() {
@@ -638,5 +624,5 @@ fn main() {
     checks(&mut s);
     releases(&mut s);
     all_cuts(&mut s);
-    all_words();
+    all_words(&mut s);
 }

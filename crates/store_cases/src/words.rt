@@ -69,6 +69,14 @@ fn print_chain(s: &[u64]) {
     end_line();
 }
 
+pub fn fill_sevens(s: &mut [u64]) {
+    let mut i: usize = 0;
+    while i < s.len() {
+        s[i] = 7;
+        i += 1;
+    }
+}
+
 // Words 0 to 7, the first nodes, the chain.
 pub fn print_store(s: &[u64], nodes: usize) {
     io::write_all(STDOUT_FILENO, b"words");
