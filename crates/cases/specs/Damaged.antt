@@ -2,10 +2,9 @@
 -- to leaf 5; the chain is 6, 7, … 15.
 use Prim.Native.Nat.{ℕ, zero, suc, _+_, _*_, _-_, _^_}
 use mathlib.Core.List.{List, [], _∷_, _++_}
-use Rattle.model.specs.Words.{NONE, rowLimit}
 use Rattle.model.specs.Refusals.{Answer, result, refused}
 use Rattle.cases.specs.Run.{Call, Create, Append, Find, Prune, Walk, Release, ReleaseEmpty, Check, Shape, Set, Put, Line}
-use Rattle.cases.specs.Table.{line, five}
+use Rattle.cases.specs.Table.{line, NONE, rowLimit, five}
 
 abbrev pub headerDamaged : Answer
 headerDamaged = refused 2 65535
@@ -74,7 +73,11 @@ roots =
     ∷ line (Append 1 1) (refused 4 0) ∷ line (Put 0 2 (rowLimit + 1)) done ∷ line Check (refused 2 0) ∷ [])
     -- below the root's start only the root is read
     ++ (line (Create 2 16 100) done ∷ line (Append 10 1) (result (100 ∷ 110 ∷ 0 ∷ [])) ∷ line (Append 10 2) (result (110 ∷ 120 ∷ 0 ∷ []))
-    ∷ line (Append 10 3) (result (120 ∷ 130 ∷ 2 ∷ [])) ∷ line (Put 1 2 9) done ∷ line (Find 50) (result []) ∷ line (Find 105) (refused 2 1) ∷ [])
+    ∷ line (Append 10 3) (result (120 ∷ 130 ∷ 2 ∷ [])) ∷ line (Put 1 2 9) done ∷ line (Find 50) (result []) ∷ line (Find 105) (refused 2 1)
+    -- and it must be sound: word 9 is its count
+    ∷ line (Set 9 3) done ∷ line (Find 50) (refused 2 0) ∷ [])
+    -- "Prune: 7, root 2, 8"
+    ++ five ++ (line (Set 9 3) done ∷ line (Prune 10 20 (2 ∷ [])) (refused 2 0) ∷ [])
 
 -- the chain: a head that is not free, a number out of range, a next number out of range, a repeated node
 abbrev pub chains : List Line
@@ -101,6 +104,9 @@ headers =
     ∷ line (Set 2 17) done ∷ line (Find 15) headerDamaged ∷ line (Set 2 16) done ∷ line (Find 15) (refused 3 0)
     ∷ line (Append 0 6) (refused 3 0) ∷ line (Prune 0 0 []) (refused 3 0) ∷ (Walk 0, refused 3 0 ∷ []) ∷ line (Release 0) (refused 3 0)
     ∷ line ReleaseEmpty (refused 3 0) ∷ line Check (refused 3 0) ∷ [])
+    -- "Prune and release end with 2 where the free count and the nodes to be freed pass P together": of an empty root too
+    ++ (line (Create 2 16 7) done ∷ line (Set 4 16) done ∷ line ReleaseEmpty headerDamaged ∷ line (Release 0) headerDamaged
+    ∷ line (Set 4 15) done ∷ line ReleaseEmpty (result (1 ∷ 0 ∷ [])) ∷ [])
 
 -- release: the first row below the pivot; afterwards closed, and a create opens again
 abbrev pub releases : List Line

@@ -1,3 +1,4 @@
 pub mod Run
 pub mod Table
 pub mod Damaged
+pub mod Written

@@ -2,8 +2,8 @@
 use Prim.Native.Nat.{ℕ, zero, suc, _+_, _*_, _-_}
 use mathlib.Core.List.{List, [], _∷_, _++_, map}
 use mathlib.Core.Bool.{Bool, true, false}
-use lib.ListN.{length, set, replicate}
-use Rattle.model.specs.Words.{storeShape, lent, pick, word, pool, root, storeLength, nodeSize, part, put, height, count, start, end}
+use lib.ListN.{length, set, replicate, take, drop}
+use Rattle.model.specs.Words.{storeShape, lent, pick, word, pool, root, freeHead, freeCount, storeLength, nodeSize, part, put, height, count, start, end}
 use Rattle.model.specs.Tree.{Node, Level, next, last, overPairs, Limit, Open, Below, level}
 use Rattle.model.specs.Reading.{rootTree}
 use Rattle.model.specs.Refusals.{Answer, result, refused, Outcome}
@@ -28,9 +28,15 @@ pub data Call : Type 0 where
   Check : Call
   -- height, count, start and end of every node, in reading order
   Shape : Call
-  -- word i of the store, or word j of node n, becomes x
+  -- k words of the store from word i on, or of node n from its word j on
+  Words : ℕ → ℕ → Call
+  Part : ℕ → ℕ → ℕ → Call
+  -- the free nodes in the order of the chain, as many as the free count says, and the number after them
+  Chain : Call
+  -- word i of the store, or word j of node n, becomes x; or the store becomes these words
   Set : ℕ → ℕ → Call
   Put : ℕ → ℕ → ℕ → Call
+  Load : List ℕ → Call
 
 -- the leaves from a cursor on: the answers up to the first that is no leaf
 unfoldable pub walkAnswers : List ℕ → ℕ → Stepped → List Answer
@@ -46,6 +52,16 @@ unfoldable pub shapes : (h : ℕ) → Level h → List ℕ
 shapes zero x = []
 shapes (suc h) t =
     t .height ∷ length (t .pairs) ∷ t .start ∷ t .end ∷ overPairs (λ x r b. shapes h x) (t .pairs) Open
+
+-- words j, j + 1, … of node n, k of them
+unfoldable pub partsFrom : List ℕ → ℕ → ℕ → ℕ → List ℕ
+partsFrom w n j zero = []
+partsFrom w n j (suc k) = part (storeShape lent w) w n j ∷ partsFrom w n (j + 1) k
+
+-- "the next free number, or P, as its count"
+unfoldable pub chainFrom : List ℕ → ℕ → ℕ → List ℕ
+chainFrom w n zero = n ∷ []
+chainFrom w n (suc k) = n ∷ chainFrom w (part (storeShape lent w) w n 1) k
 
 -- an answer, or those of a walk, and the words afterwards
 pub record Ran : Type 0 where
@@ -67,8 +83,12 @@ run w ReleaseEmpty = ran (destroyEmpty lent w)
 run w Check = record { answers = fullCheck lent w ∷ []; words = w }
 run w Shape =
     record { answers = result (shapes (suc (height (storeShape lent w) w (root w))) (rootTree (storeShape lent w) w (root w))) ∷ []; words = w }
+run w (Words i k) = record { answers = result (take k (drop i w)) ∷ []; words = w }
+run w (Part n j k) = record { answers = result (partsFrom w n j k) ∷ []; words = w }
+run w Chain = record { answers = result (chainFrom w (freeHead w) (freeCount w)) ∷ []; words = w }
 run w (Set i x) = record { answers = result [] ∷ []; words = set w i x }
 run w (Put n j x) = record { answers = result [] ∷ []; words = put (storeShape lent w) w n j x }
+run w (Load v) = record { answers = result [] ∷ []; words = v }
 
 -- a call and what it must answer
 abbrev pub Line : Type 0

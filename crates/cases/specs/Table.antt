@@ -1,12 +1,27 @@
 -- 01, "Cuts and edges: C = 2, start 0, page k holds rows 10(k − 1) to 10k − 1".
 use Prim.Native.Nat.{ℕ, zero, suc, _+_, _*_, _-_, _^_}
 use mathlib.Core.List.{List, [], _∷_, _++_}
-use Rattle.model.specs.Words.{NONE, rowLimit}
 use Rattle.model.specs.Refusals.{Answer, result, refused}
 use Rattle.cases.specs.Run.{Call, Create, Append, Find, Prune, Walk, Release, ReleaseEmpty, Check, Shape, Set, Put, Line}
 
 abbrev pub line : Call → Answer → Line
 line c a = (c, a ∷ [])
+
+-- 01's numbers, as numbers ---------------------------------------------------------------------------------
+
+-- "NONE is 2^64 − 1."
+abbrev pub NONE : ℕ
+NONE = 18446744073709551615
+
+-- "Rows and ends are at most 2^62"
+abbrev pub rowLimit : ℕ
+rowLimit = 4611686018427387904
+
+-- "A free node has height 2^32 − 1"
+abbrev pub freeMark : ℕ
+freeMark = 4294967295
+
+-- The cases ------------------------------------------------------------------------------------------------
 
 -- "Third append takes 2, fifth 3 (height 2, left branch ends 40, right at NONE)"
 abbrev pub five : List Line
@@ -76,8 +91,12 @@ limits =
     ∷ line (Append 10 2) (result (10 ∷ 20 ∷ 0 ∷ []))
     ∷ line (Append 10 3) (refused 5 2)
     ∷ line (Create 2 16 0) (result [])
+    ∷ line (Append (rowLimit + 1) 1) (refused 4 0)
     ∷ line (Append rowLimit 1) (result (0 ∷ rowLimit ∷ 0 ∷ []))
     ∷ line (Append 1 2) (refused 4 0)
+    -- "create: start above 2^62"
+    ∷ line (Create 2 16 rowLimit) (result [])
+    ∷ line (Create 2 16 (rowLimit + 1)) (refused 4 0)
     ∷ []
 
 -- 01's own example of the script: "prune 2 1 0", "page 3", "none", "free 11"

@@ -1,6 +1,8 @@
 // The calls on the compiled library, a line for each call: the answer's values, or `no`, the refusal's number
 // and its detail. The lines are held to the file stdout.
 
+mod words;
+
 use answer_numbers;
 use byvalue;
 use destroy_empty;
@@ -172,12 +174,13 @@ fn find_damaged(s: &mut [u64], i: usize, x: u64) {
     find_row(s, 25);
 }
 
-// The right leaf's count; a child number out of range; the root's height; a closed store; the header; a store of seven
-// words.
+// The right leaf's count; a child number out of range; the root's height and count, below its start too; a closed store; the
+// header; a store of seven words.
 fn damaged_paths(s: &mut [u64]) {
     find_damaged(s, 25, 3);
     find_damaged(s, 15, 77);
     find_damaged(s, 8, 32);
+    find_damaged(s, 9, 3);
     find_damaged(s, 2, 16);
     find_damaged(s, 1, 15);
     let short = [2u64; 7];
@@ -209,14 +212,21 @@ fn row_limits(s: &mut [u64]) {
     make(s, 2, 16, (1 << 62) + 1);
 }
 
-// A right edge that is full up to height 31: 6 comes before 5.
+// A right edge that is full up to height 31: 6 comes before 5. A root of height 30 needs 32 nodes; one of height 32 is
+// unsound.
 fn height_limit() {
     let mut tall = [0u64; 264];
     make(&mut tall, 2, 32, 0);
-    full_node(&mut tall, 0, 0, 31, 32, 40, 0);
+    full_node(&mut tall, 0, 0, 31, 32, 40, 9);
     full_branches(&mut tall);
     damage(&mut tall, 2, 31);
     append(&mut tall, 1, 1);
+    find_row(&tall, 35);
+    damage(&mut tall, 2, 30);
+    append(&mut tall, 1, 1);
+    damage(&mut tall, 2, 31);
+    damage_node(&mut tall, 31, 0, 32);
+    find_row(&tall, 35);
 }
 
 // Capacity, pool and length of a new store.
@@ -350,12 +360,17 @@ fn walks(s: &mut [u64]) {
     walk(s, 0);
 }
 
-// Five pages, word i damaged, and the full check.
-fn check_damaged(s: &mut [u64], i: usize, x: u64) {
+// Five pages.
+fn grow_five(s: &mut [u64]) {
     make(s, 2, 16, 0);
     append_two(s, 1, 2);
     append_two(s, 3, 4);
     append(s, 10, 5);
+}
+
+// Five pages, word i damaged, and the full check.
+fn check_damaged(s: &mut [u64], i: usize, x: u64) {
+    grow_five(s);
     damage(s, i, x);
     check(s);
 }
@@ -408,6 +423,15 @@ fn closed(s: &mut [u64]) {
     print_release(destroy_empty::destroy_empty(s));
 }
 
+// A free count of P: there is no room for an empty root either.
+fn release_past_pool(s: &mut [u64]) {
+    let mut pages = [0u64; 1];
+    make(s, 2, 16, 7);
+    damage(s, 4, 16);
+    print_release(destroy_empty::destroy_empty(s));
+    print_release(destroy::destroy(s, RowID(0), &mut pages));
+}
+
 fn releases(s: &mut [u64]) {
     grow_nine(s);
     release_nine(s);
@@ -415,6 +439,7 @@ fn releases(s: &mut [u64]) {
     make(s, 2, 16, 7);
     print_release(destroy_empty::destroy_empty(s));
     closed(s);
+    release_past_pool(s);
 }
 
 // A prune, and its line.
@@ -431,10 +456,7 @@ fn cut(s: &mut [u64], start: u64, end: u64, ids: &[u64]) {
 
 // Five pages, word i damaged, and a prune.
 fn cut_damaged(s: &mut [u64], i: usize, x: u64, end: u64, ids: &[u64]) {
-    make(s, 2, 16, 0);
-    append_two(s, 1, 2);
-    append_two(s, 3, 4);
-    append(s, 10, 5);
+    grow_five(s);
     damage(s, i, x);
     cut(s, 0, end, ids);
     check(s);
@@ -503,6 +525,14 @@ fn lazy_cuts(s: &mut [u64]) {
     cut_damaged(s, 49, 3, 20, &two);
 }
 
+// The root's count comes before another start.
+fn cut_of_unsound_root(s: &mut [u64]) {
+    let two = [2u64];
+    grow_five(s);
+    damage(s, 9, 3);
+    cut(s, 10, 20, &two);
+}
+
 // An empty root, and a closed store.
 fn cuts_of_none(s: &mut [u64]) {
     let two = [1u64, 2];
@@ -520,7 +550,60 @@ fn all_cuts(s: &mut [u64]) {
     wrong_rows(s);
     damaged_cuts(s);
     lazy_cuts(s);
+    cut_of_unsound_root(s);
     cuts_of_none(s);
+}
+
+// Words after calls, on words that were all 7: a word that no rule names is a 7.
+fn created_words(s: &mut [u64]) {
+    words::fill_sevens(s);
+    make(s, 2, 16, 5);
+    words::print_store(s, 2);
+}
+
+// Five pages on sevens, and a prune of those named.
+fn cut_words(s: &mut [u64], end: u64, ids: &[u64]) {
+    words::fill_sevens(s);
+    grow_five(s);
+    cut(s, 0, end, ids);
+    words::print_store(s, 7);
+}
+
+// A prune of no ids is refused; then slots past a count keep what they held; copies take every word, and the nodes that went
+// are freed children first, then the copied ones, deepest first; an empty root's slots keep what they held.
+fn all_cut_words(s: &mut [u64]) {
+    let none = [0u64; 0];
+    let three = [1u64, 2, 3];
+    let four = [1u64, 2, 3, 4];
+    let five = [1u64, 2, 3, 4, 5];
+    cut_words(s, 0, &none);
+    cut_words(s, 30, &three);
+    cut_words(s, 40, &four);
+    cut_words(s, 50, &five);
+}
+
+// Three levels are copied.
+fn cut_nine_words(s: &mut [u64]) {
+    let eight = [1u64, 2, 3, 4, 5, 6, 7, 8];
+    words::fill_sevens(s);
+    grow_nine(s);
+    cut(s, 0, 80, &eight);
+    words::print_store(s, 11);
+}
+
+fn released_words(s: &mut [u64]) {
+    let mut pages = [0u64; 5];
+    words::fill_sevens(s);
+    grow_five(s);
+    print_release(destroy::destroy(s, RowID(0), &mut pages));
+    words::print_store(s, 7);
+}
+
+fn all_words(s: &mut [u64]) {
+    created_words(s);
+    all_cut_words(s);
+    cut_nine_words(s);
+    released_words(s);
 }
 
 fn main() {
@@ -536,4 +619,5 @@ fn main() {
     checks(&mut s);
     releases(&mut s);
     all_cuts(&mut s);
+    all_words(&mut s);
 }
