@@ -20,12 +20,12 @@ use types.SemTy.{cells, Arr, Body}
 use types.Share.{parts, arr-parts}
 use denote.RattleType.{RattleType}
 use denote.Laws.{Is, Makes, shows}
-use denote.Memory.{cellAt, lone, mem, shares, partAt, partOf}
+use denote.Memory.{cellAt, lone, mem, shares, partOf}
 use denote.Array.{Array, array-makes}
 use denote.ArrayMemory.{Single, array-apart, array-whole}
 use denote.Index.{whole-in, whole-out}
 use denote.Slice.{sliceVal, MutSlice, Room, finally}
-use denote.Lend.{Held, LentRef, lends-ref, ref-back, Lent, lends-slice, slice-back}
+use denote.Lend.{Held, LentRef, lends-ref, ref-back, lends-slice, slice-back}
 use denote.Steps.{only, owned, peeks, nothing}
 
 -- what a call that returns nothing leaves in its local
