@@ -67,7 +67,7 @@ fn print_newline() {
 fn print_refusal(r: Refusal) {
     let no = [b'n', b'o', b' '];
     io::write_all(STDOUT_FILENO, &no);
-    let n = answers::number_of(r);
+    let n = answer_numbers::number_of(r);
     io::print_decimal(STDOUT_FILENO, n.0);
     print_space();
     io::print_decimal(STDOUT_FILENO, n.1);
@@ -219,7 +219,7 @@ fn nothing_moves(s: &[u64]) {
 // The entries of the leaf reached for row 65, copied.
 fn copies(s: &[u64]) {
     let c = seek_on(RowPageIndexMemCursor::new(), RowID(65));
-    let reached = cursor::step(s, c, 5);
+    let reached = leaf_step::step(s, c, 5);
     let e = reached.entries;
     print_list(copy_on(s, e, records()));
 }
