@@ -11,7 +11,6 @@ ghost use Rattle.full_check.specs.Ending.{ending};
 use model::answer::Checked;
 use model::answer::Refusal;
 use model::id::NodeNo;
-use model::node::RowPageIndexNodeHeader;
 use node::header;
 use node::header::Opened;
 use node::header::StoreHeader;

@@ -6,7 +6,9 @@ ghost use lib.ListN.{getD};
 ghost use Rattle.model.specs.Words.{fill};
 ghost use Rattle.answer_numbers.specs.Numbers.{answerWords};
 ghost use Rattle.host.specs.Served.{append, check, create, destroy, destroyEmpty, find, next, onCursor, onPages, onWalk, onWords, prune, seek, served};
+use answer_words;
 use answers;
+use answers_read;
 use byvalue;
 use destroy_empty;
 use host_cursor;
@@ -27,7 +29,7 @@ pub extern "C" fn row_page_index_create(
     ensures number { λ r. ⌜ r ≡ getD (answerWords (served (onWords (now (words .entry))) (create capacity nodes start) .answer)) 0 0 ⌝ }
 {
     let n = answers::created_numbers(create::new(words, capacity, nodes, RowID(start)));
-    answers::write(answer, n);
+    answer_words::write(answer, n);
     n.number
 }
 
@@ -44,7 +46,7 @@ pub extern "C" fn row_page_index_append(
     ensures number { λ r. ⌜ r ≡ getD (answerWords (served (onWords (now (words .entry))) (append count page) .answer)) 0 0 ⌝ }
 {
     let n = answers::inserted_numbers(insert::insert_row_page(words, count, PageID(page)));
-    answers::write(answer, n);
+    answer_words::write(answer, n);
     n.number
 }
 
@@ -54,8 +56,8 @@ pub extern "C" fn row_page_index_find(words: &[u64], row: u64, answer: &mut [u64
     ensures answer { λ _. ⌜ now (answer .exit) ≡ fill (now (answer .entry)) 0 (answerWords (served (onWords (now (words .entry))) (find row) .answer)) ⌝ }
     ensures number { λ r. ⌜ r ≡ getD (answerWords (served (onWords (now (words .entry))) (find row) .answer)) 0 0 ⌝ }
 {
-    let n = answers::location_numbers(find::try_find_row(words, RowID(row)));
-    answers::write(answer, n);
+    let n = answers_read::location_numbers(find::try_find_row(words, RowID(row)));
+    answer_words::write(answer, n);
     n.number
 }
 
@@ -78,7 +80,7 @@ pub extern "C" fn row_page_index_prune(
         RowID(end),
         ids,
     ));
-    answers::write(answer, n);
+    answer_words::write(answer, n);
     n.number
 }
 
@@ -96,7 +98,7 @@ pub extern "C" fn row_page_index_destroy(
     ensures number { λ r. ⌜ r ≡ getD (answerWords (served (onPages (now (words .entry)) (now (pages .entry))) (destroy pivot) .answer)) 0 0 ⌝ }
 {
     let n = answers::destroyed_numbers(destroy::destroy(words, RowID(pivot), pages));
-    answers::write(answer, n);
+    answer_words::write(answer, n);
     n.number
 }
 
@@ -108,7 +110,7 @@ pub extern "C" fn row_page_index_destroy_empty(words: &mut [u64], answer: &mut [
     ensures number { λ r. ⌜ r ≡ getD (answerWords (served (onWords (now (words .entry))) destroyEmpty .answer)) 0 0 ⌝ }
 {
     let n = answers::destroyed_numbers(destroy_empty::destroy_empty(words));
-    answers::write(answer, n);
+    answer_words::write(answer, n);
     n.number
 }
 
@@ -118,8 +120,8 @@ pub extern "C" fn row_page_index_check(words: &[u64], answer: &mut [u64]) -> u64
     ensures answer { λ _. ⌜ now (answer .exit) ≡ fill (now (answer .entry)) 0 (answerWords (served (onWords (now (words .entry))) check .answer)) ⌝ }
     ensures number { λ r. ⌜ r ≡ getD (answerWords (served (onWords (now (words .entry))) check .answer)) 0 0 ⌝ }
 {
-    let n = answers::checked_numbers(full_check::full_check(words));
-    answers::write(answer, n);
+    let n = answers_read::checked_numbers(full_check::full_check(words));
+    answer_words::write(answer, n);
     n.number
 }
 
@@ -128,8 +130,8 @@ pub extern "C" fn row_page_index_check(words: &[u64], answer: &mut [u64]) -> u64
 pub extern "C" fn row_page_index_seek(cursor: &mut [u64], row: u64)
     ensures { λ _. ⌜ now (cursor .exit) ≡ served (onCursor (now (cursor .entry))) (seek row) .arrays .cursor ⌝ }
 {
-    answers::put(cursor, 0, row);
-    answers::put(cursor, 1, 0);
+    answer_words::put(cursor, 0, row);
+    answer_words::put(cursor, 1, 0);
 }
 
 // Values: start, end and count of the leaf; or none. Row and page of each entry go into records.
@@ -149,7 +151,7 @@ pub extern "C" fn row_page_index_next(
     let after = step.cursor;
     let given = step.answer;
     host_cursor::cursor_out(cursor, after, given);
-    let n = answers::next_leaf_numbers(given);
-    answers::write(answer, n);
+    let n = answers_read::next_leaf_numbers(given);
+    answer_words::write(answer, n);
     n.number
 }

@@ -5,7 +5,7 @@ ghost use lib.ListN.{getD};
 ghost use Rattle.model.specs.Words.{pick};
 ghost use Rattle.model.specs.Refusals.{nextLeaf};
 ghost use Rattle.host_cursor.specs.Cursors.{cursorAfter, cursorIn};
-use answers;
+use answer_words;
 use byvalue;
 use model::answer::NextLeaf;
 use model::cursor::RowPageIndexMemCursor;
@@ -49,6 +49,6 @@ pub fn cursor_out(cursor: &mut [u64], c: RowPageIndexMemCursor, given: NextLeaf)
     }
     let row = c.row_id;
     let done = flag(c.done);
-    answers::put(cursor, 0, row.0);
-    answers::put(cursor, 1, done);
+    answer_words::put(cursor, 0, row.0);
+    answer_words::put(cursor, 1, done);
 }

@@ -8,7 +8,6 @@ ghost use Rattle.lines.specs.Names.{appendName, createName, pruneName, r
 ghost use Rattle.lines.specs.Answers.{answerLine, findLine, leafLines, refusalLine};
 use answer_numbers;
 use answer_numbers::Numbered;
-use answers;
 use model::answer::Created;
 use model::answer::Destroyed;
 use model::answer::Inserted;

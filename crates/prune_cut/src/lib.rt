@@ -11,7 +11,6 @@ ghost use Rattle.prune_write.specs.Found.{AllGo, Rooted, SomeStay, cutAt, cutTo
 ghost use Rattle.node.specs.Layout.{shapeOf};
 use copies;
 use copies::CopyTest;
-use edge;
 use model::answer::Pruned;
 use model::answer::Refusal;
 use model::answer::RowPagePrefixPrune;

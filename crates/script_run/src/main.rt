@@ -5,7 +5,6 @@ ghost use Prim.Native.Nat.{_≤_};
 ghost use lib.ListN.{length};
 use calls::Progress;
 use libc::STDOUT_FILENO;
-use script_step;
 
 // A record, its lines printed; or the end of the input, and the last line.
 fn run_record(words: &mut [u64], used: usize, bytes: &mut [u8], out: &mut [u8]) -> Progress

@@ -16,7 +16,6 @@ ghost use Rattle.tally.specs.Tally.{more, noCounts, tally};
 ghost use Rattle.survey.specs.Ends.{wrongEnd, withEnds};
 ghost use Rattle.walk_limit.specs.Limits.{bounded, limit};
 use model::id::NodeNo;
-use model::id::RowID;
 use model::path::Path;
 use model::path::Position;
 use node::layout::Layout;

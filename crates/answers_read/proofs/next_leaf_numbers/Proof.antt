@@ -1,7 +1,7 @@
 use borrow.Author.Needs.{needs}
 use Rattle.answer_numbers.specs.Numbers.{answerWords}
-use Rattle.answers.proofs.next_leaf_numbers.Statement.{statement}
-use Rattle.answers.proofs.next_leaf_numbers.Tie as tie
+use Rattle.answers_read.proofs.next_leaf_numbers.Statement.{statement}
+use Rattle.answers_read.proofs.next_leaf_numbers.Tie as tie
 
 enum-known-a : tie.Need-enum-known-a
 enum-known-a c = search needs

@@ -1,19 +1,13 @@
 use borrow.Author.Needs.{needs}
 use Rattle.answer_numbers.specs.Numbers.{answerWords}
-use Rattle.answers.proofs.location_numbers.Statement.{statement}
-use Rattle.answers.proofs.location_numbers.Tie as tie
+use Rattle.answers_read.proofs.checked_numbers.Statement.{statement}
+use Rattle.answers_read.proofs.checked_numbers.Tie as tie
 
 enum-known-a : tie.Need-enum-known-a
 enum-known-a c = search needs
 
 values-requires : tie.Need-values-requires
 values-requires c κs = search needs
-
-enum-told : tie.Need-enum-told
-enum-told c = search needs
-
-values-requires-2 : tie.Need-values-requires-2
-values-requires-2 c κs = search needs
 
 enum-known-a-2 : tie.Need-enum-known-a-2
 enum-known-a-2 c = search needs
@@ -27,22 +21,15 @@ returns c = rw (c .before .before .a .given .1) (c .values .ensures)
 
 returns-2 : tie.Need-returns-2
 unfolding answerWords
-returns-2 c = rw (c .before .enum-told .given .1) (c .values2 .ensures)
+returns-2 c = rw (c .before .before .a2 .given .1) (c .refusal-numbers .ensures)
 
-returns-3 : tie.Need-returns-3
-unfolding answerWords
-returns-3 c = rw (c .before .before .a2 .given .1) (c .refusal-numbers .ensures)
-
-pub location-numbers-spec : {M : Type 1} → statement M
-location-numbers-spec =
+pub checked-numbers-spec : {M : Type 1} → statement M
+checked-numbers-spec =
     tie.close
     (tie.spec
     enum-known-a
     values-requires
-    enum-told
-    values-requires-2
     enum-known-a-2
     refusal-numbers-requires
     returns
-    returns-2
-    returns-3)
+    returns-2)

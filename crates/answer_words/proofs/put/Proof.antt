@@ -1,8 +1,8 @@
 use borrow.Author.Needs.{needs}
 use mathlib.Core.Path.{sym}
 use lib.Seq.{set-out}
-use Rattle.answers.proofs.put.Statement.{statement}
-use Rattle.answers.proofs.put.Tie as tie
+use Rattle.answer_words.proofs.put.Statement.{statement}
+use Rattle.answer_words.proofs.put.Tie as tie
 
 mul-out : tie.Need-mul-out
 mul-out c = search needs

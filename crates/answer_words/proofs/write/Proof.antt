@@ -1,8 +1,8 @@
 use borrow.Author.Needs.{needs}
 use mathlib.Core.Path.{refl}
 use Rattle.model.specs.Words.{fill}
-use Rattle.answers.proofs.write.Statement.{statement}
-use Rattle.answers.proofs.write.Tie as tie
+use Rattle.answer_words.proofs.write.Statement.{statement}
+use Rattle.answer_words.proofs.write.Tie as tie
 
 put-requires : tie.Need-put-requires
 put-requires c κs = search needs
