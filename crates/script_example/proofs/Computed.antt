@@ -16,7 +16,7 @@ use Rattle.text.specs.Lines.{digitsOf, decimal, numbers, line}
 use Rattle.records.specs.Records.{little, wordsIn, callOf, asked, whole, first}
 use Rattle.lines.specs.Answers.{answerLine, findLine, leafLines}
 use Rattle.calls.specs.Calls.{walkLines, createLength, ifAccepted, perform}
-use Rattle.script.specs.Script.{listingFrom, listingOf, listing}
+use Rattle.script_step.specs.Script.{listingFrom, listingOf, listing}
 use Rattle.script_example.specs.Example.{bytes, wordBytes, Case, cases}
 
 pub computed : map (λ (c : Case). listing (c .0)) cases ≡ map (λ (c : Case). c .1) cases

@@ -5,6 +5,7 @@ ghost use Prim.Native.Nat.{_≤_};
 ghost use lib.ListN.{length};
 use calls::Progress;
 use libc::STDOUT_FILENO;
+use script_turn;
 
 // A record, its lines printed; or the end of the input, and the last line.
 fn run_record(words: &mut [u64], used: usize, bytes: &mut [u8], out: &mut [u8]) -> Progress
@@ -13,7 +14,7 @@ fn run_record(words: &mut [u64], used: usize, bytes: &mut [u8], out: &mut [u8]) 
     ensures { λ r. ⌜ r .used ≤ length (now (words .exit)) ⌝ }
 {
     let n = script_input::read_record(bytes);
-    let t = script::turn_step(words, used, &bytes[0..n], out);
+    let t = script_turn::turn_step(words, used, &bytes[0..n], out);
     let len = t.at;
     io::write_all(STDOUT_FILENO, &out[0..len]);
     t

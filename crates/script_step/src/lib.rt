@@ -1,7 +1,11 @@
 // One record of a script.
 
+ghost use mathlib.Core.List.{[], _∷_};
 ghost use Prim.Native.Nat.{_+_, _≤_};
 ghost use lib.ListN.{length};
+ghost use Rattle.model.specs.Words.{freeCount};
+ghost use Rattle.text.specs.Lines.{Puts, line};
+ghost use Rattle.lines.specs.Names.{freeName};
 ghost use Rattle.records.specs.Records.{first};
 ghost use Rattle.records.specs.Read.{meant};
 ghost use Rattle.calls.specs.Calls.{perform};
@@ -51,4 +55,12 @@ pub fn step(s: &mut [u64], used: usize, bytes: &[u8], out: &mut [u8], at: usize)
             perform_record(s, used, asked, body, out, at)
         }
     }
+}
+
+// The last line.
+pub fn free_step(s: &[u64], out: &mut [u8], at: usize) -> usize
+    requires { ⌜ 5 ≤ length (now s) ⌝ }
+    ensures { λ r. ⌜ Puts (now (out .entry)) at (line freeName (freeCount (now (s .entry)) ∷ [])) (now (out .exit)) r ⌝ }
+{
+    text::put_line1(out, at, b"free", s[4])
 }

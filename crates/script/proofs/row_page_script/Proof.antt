@@ -1,5 +1,5 @@
 use Rattle.script.proofs.Fitting.{fits}
-use Rattle.script.proofs.Stepping.{from-zeros}
+use Rattle.script_step.proofs.Stepping.{from-zeros}
 use borrow.Author.Needs.{needs}
 use Rattle.script.proofs.row_page_script.Statement.{statement}
 use Rattle.script.proofs.row_page_script.Tie as tie

@@ -11,9 +11,9 @@ use Rattle.text.specs.Lines.{Puts}
 use Rattle.text.proofs.Putting.{same}
 use Rattle.records.specs.Records.{first}
 use Rattle.calls.proofs.Performing.{used-fits}
-use Rattle.script.specs.Script.{listingFrom}
+use Rattle.script_step.specs.Script.{listingFrom}
 use Rattle.calls.specs.Steps.{memory}
-use Rattle.script.proofs.Stepping.{goes-whole, stops, goes-on, next-fits}
+use Rattle.script_step.proofs.Stepping.{goes-whole, stops, goes-on, next-fits}
 use Rattle.script.proofs.run_on.Statement.{statement}
 use Rattle.script.proofs.run_on.Tie as tie
 

@@ -6,9 +6,9 @@ use borrow.Author.Needs.{needs}
 use Rattle.records.specs.Records.{first}
 use Rattle.calls.specs.Steps.{memory}
 use Rattle.calls.proofs.Performing.{used-fits}
-use Rattle.script.proofs.Stepping.{turn-none, turn-some, turn-short}
-use Rattle.script.proofs.turn_step.Statement.{statement}
-use Rattle.script.proofs.turn_step.Tie as tie
+use Rattle.script_step.proofs.Stepping.{turn-none, turn-some, turn-short}
+use Rattle.script_turn.proofs.turn_step.Statement.{statement}
+use Rattle.script_turn.proofs.turn_step.Tie as tie
 
 free-step-requires : tie.Need-free-step-requires
 free-step-requires c κs = search needs

@@ -19,7 +19,7 @@ use Rattle.records.proofs.Heads.{within, wholly, badly}
 use Rattle.lines.specs.Names.{freeName}
 use Rattle.calls.specs.Calls.{Memory, perform}
 use Rattle.script_walk.proofs.Short.{line-short, short}
-use Rattle.script.specs.Script.{listingFrom, listingOf, turn}
+use Rattle.script_step.specs.Script.{listingFrom, listingOf, turn}
 use Rattle.calls.specs.Steps.{memory, Does}
 use Rattle.calls.specs.declared.Progress.{Progress}
 
