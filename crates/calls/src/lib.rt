@@ -4,11 +4,10 @@ ghost use mathlib.Core.Path.{_≡_};
 ghost use mathlib.Core.Bool.{false};
 ghost use mathlib.Core.List.{[]};
 ghost use Prim.Native.Nat.{_≤_};
-ghost use lib.ListN.{drop, length};
+ghost use lib.ListN.{length};
 ghost use Rattle.text.specs.Lines.{Puts, line};
 ghost use Rattle.lines.specs.Names.{badRecordName};
 ghost use Rattle.records.specs.Records as R;
-ghost use Rattle.records.specs.Read.{bodyWords};
 ghost use Rattle.calls.specs.Calls.{perform};
 ghost use Rattle.calls.specs.Steps.{Does, memory};
 use model::id::PageID;
@@ -47,30 +46,6 @@ pub fn find_step(s: &[u64], used: usize, row: u64, out: &mut [u8], at: usize) ->
 {
     let a = find::try_find_row(&s[..used], RowID(row));
     let place = lines::put_location(out, at, a);
-    Progress {
-        used,
-        at: place,
-        goes: true,
-    }
-}
-
-// The page ids stand in the body.
-pub fn prune_step(
-    s: &mut [u64],
-    used: usize,
-    start: u64,
-    end: u64,
-    body: &[u8],
-    out: &mut [u8],
-    at: usize,
-) -> Progress
-    requires { ⌜ (used ≤ length (now s)) × (length (now body) ≤ 4096) ⌝ }
-    ensures { λ r. ⌜ Does (perform (memory (now (s .entry)) used) (R.Prune start end (drop 2 (bodyWords (now (body .entry)))))) (now (out .entry)) at (now (s .exit)) (now (out .exit)) r ⌝ }
-{
-    let mut ids = [0u64; 512];
-    let k = records::copy_ids(body, &mut ids);
-    let a = prune::prune_checkpoint_prefix(&mut s[..used], RowID(start), RowID(end), &ids[..k]);
-    let place = lines::put_pruned(out, at, a);
     Progress {
         used,
         at: place,

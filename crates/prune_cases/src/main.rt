@@ -70,7 +70,10 @@ fn begin(i: u64) -> u64 {
 fn height(s: &[u64]) -> u64 {
     match header::open(s) {
         Opened::Refused(_) => 0,
-        Opened::Open(h) => h.layout.part(s, h.root, 0),
+        Opened::Open(h) => {
+            let top = h.layout.header(s, h.root);
+            top.height
+        }
     }
 }
 

@@ -15,6 +15,7 @@ use records::Head;
 use records::Record;
 use script_create;
 use script_walk;
+use script_prune;
 
 // Whatever a record asks for, with its body.
 fn perform_record(
@@ -34,7 +35,7 @@ fn perform_record(
         }
         Record::Append(count, page) => calls::append_step(s, used, count, page, out, at),
         Record::Find(row) => calls::find_step(&s[..], used, row, out, at),
-        Record::Prune(start, end) => calls::prune_step(s, used, start, end, body, out, at),
+        Record::Prune(start, end) => script_prune::prune_step(s, used, start, end, body, out, at),
         Record::Walk(row) => script_walk::walk_step(&s[..], used, row, out, at),
         Record::Release(pivot) => calls::release_step(s, used, pivot, out, at),
         Record::Bad => calls::bad_step(used, out, at),

@@ -14,8 +14,8 @@ enum-told c = search needs
 enum-known-h : tie.Need-enum-known-h
 enum-known-h c = search needs
 
-part-requires : tie.Need-part-requires
-part-requires c κs = let q = opens-fits _ _ (is-open _ _ (sym (c .before .before .before .«open» .ensures) ∙ c .before .h .given .1)) in (q .0, (q .1, omega arith))
+header-requires : tie.Need-header-requires
+header-requires c κs = let q = opens-fits _ _ (is-open _ _ (sym (c .before .before .before .«open» .ensures) ∙ c .before .h .given .1)) in (q .0, q .1)
 
 returns : tie.Need-returns
 returns c = search needs
@@ -25,4 +25,4 @@ returns-2 c = search needs
 
 pub height-spec : {M : Type 1} → statement M
 height-spec =
-    tie.close (tie.spec open-requires enum-told enum-known-h part-requires returns returns-2)
+    tie.close (tie.spec open-requires enum-told enum-known-h header-requires returns returns-2)

@@ -1,5 +1,4 @@
-// Scripts run on the compiled library: the bytes afterwards, and the whole length of the listing. The lines are held to the
-// file stdout.
+// Scripts run by the C function: the bytes afterwards, and the whole length of the listing.
 
 use libc::STDOUT_FILENO;
 use script;
@@ -36,7 +35,8 @@ fn show_bad(out: &mut [u8]) {
     );
 }
 
-fn main() {
+// 01's example into outputs of three lengths, nine appends, a bad record, no script, a cut record.
+pub fn show_all() {
     let mut whole = [b'.'; 150];
     show_example(&mut whole);
     let mut short = [b'.'; 20];

@@ -1,9 +1,9 @@
 use mathlib.Core.Path.{sym}
 use lib.Seq.{length-take-le}
 use Rattle.calls.proofs.Performing.{prunes}
 use borrow.Author.Needs.{needs}
-use Rattle.calls.proofs.prune_step.Statement.{statement}
-use Rattle.calls.proofs.prune_step.Tie as tie
+use Rattle.script_prune.proofs.prune_step.Statement.{statement}
+use Rattle.script_prune.proofs.prune_step.Tie as tie
 
 slice-aggregate-copy-ids : tie.Need-slice-aggregate-copy-ids
 slice-aggregate-copy-ids c = search needs

@@ -1,0 +1,34 @@
+// A script's prune.
+
+ghost use Prim.Native.Nat.{_≤_};
+ghost use lib.ListN.{drop, length};
+ghost use Rattle.records.specs.Records as R;
+ghost use Rattle.records.specs.Read.{bodyWords};
+ghost use Rattle.calls.specs.Calls.{perform};
+ghost use Rattle.calls.specs.Steps.{Does, memory};
+use model::id::RowID;
+use calls::Progress;
+
+// The page ids stand in the body.
+pub fn prune_step(
+    s: &mut [u64],
+    used: usize,
+    start: u64,
+    end: u64,
+    body: &[u8],
+    out: &mut [u8],
+    at: usize,
+) -> Progress
+    requires { ⌜ (used ≤ length (now s)) × (length (now body) ≤ 4096) ⌝ }
+    ensures { λ r. ⌜ Does (perform (memory (now (s .entry)) used) (R.Prune start end (drop 2 (bodyWords (now (body .entry)))))) (now (out .entry)) at (now (s .exit)) (now (out .exit)) r ⌝ }
+{
+    let mut ids = [0u64; 512];
+    let k = records::copy_ids(body, &mut ids);
+    let a = prune::prune_checkpoint_prefix(&mut s[..used], RowID(start), RowID(end), &ids[..k]);
+    let place = lines::put_pruned(out, at, a);
+    Progress {
+        used,
+        at: place,
+        goes: true,
+    }
+}
