@@ -4,7 +4,7 @@
 
 pub mod compare;
 pub mod shown;
-mod single;
+pub mod single;
 
 ghost use Prim.Native.Nat.{_+_, _≤_};
 ghost use lib.ListN.{length};
