@@ -1,9 +1,8 @@
 // The two ways to run a script, compared on standard input: the C function on all the bytes, and record by record as
 // script_run does. First on every prefix of the input, so that every record is cut at every byte; then on the whole input
-// with every length of the C function's output, up to that of the listing. Last some scripts shown with their outputs.
+// with every length of the C function's output, up to that of the listing.
 
 pub mod compare;
-pub mod shown;
 pub mod single;
 
 ghost use Prim.Native.Nat.{_+_, _≤_};
@@ -134,5 +133,4 @@ fn main() {
     let mut b = io::large_buffer();
     let n = io::read_full(STDIN_FILENO, &mut input);
     report(&input[0..n], &mut a, &mut b);
-    shown::show_all();
 }

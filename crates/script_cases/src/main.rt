@@ -1,4 +1,5 @@
-// Scripts run by the C function: the bytes afterwards, and the whole length of the listing.
+// Scripts run on the compiled library: the bytes afterwards, and the whole length of the listing. The lines are held to the
+// file stdout.
 
 use libc::STDOUT_FILENO;
 use script;
@@ -35,8 +36,7 @@ fn show_bad(out: &mut [u8]) {
     );
 }
 
-// 01's example into outputs of three lengths, nine appends, a bad record, no script, a cut record.
-pub fn show_all() {
+fn main() {
     let mut whole = [b'.'; 150];
     show_example(&mut whole);
     let mut short = [b'.'; 20];
