@@ -6,8 +6,8 @@ ghost use Rattle.records.specs.Records as R;
 ghost use Rattle.records.specs.Read.{bodyWords};
 ghost use Rattle.calls.specs.Calls.{perform};
 ghost use Rattle.calls.specs.Steps.{Does, memory};
-use model::id::RowID;
 use calls::Progress;
+use model::id::RowID;
 
 // The page ids stand in the body.
 pub fn prune_step(

@@ -14,8 +14,8 @@ use calls::Progress;
 use records::Head;
 use records::Record;
 use script_create;
-use script_walk;
 use script_prune;
+use script_walk;
 
 // Whatever a record asks for, with its body.
 fn perform_record(
