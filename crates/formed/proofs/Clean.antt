@@ -11,16 +11,11 @@ use Rattle.model.specs.Reading.{Visit, Enter, Leave, Bad, endFits, passes, visi
 use Rattle.model.proofs.Tests.{and-l, and-r, both, by-test, is-true}
 use Rattle.model.proofs.Sound.{rises, rows, soundly}
 use Rattle.model.proofs.Frame.{Narrow}
+use Rattle.formed.specs.Visits.{clean}
 use Rattle.formed.specs.Well.{Well}
 use Rattle.formed.proofs.Pairs.{all-map, all-any}
 
 -- Visits with no Bad -------------------------------------------------------------------------------------
-
-unfoldable pub clean : List Visit → Bool
-clean [] = true
-clean (Enter n ∷ vs) = clean vs
-clean (Leave n ∷ vs) = clean vs
-clean (Bad n ∷ vs) = false
 
 pub clear-clean : (vs : List Visit) → firstBad vs ≡ clear → T (clean vs)
 unfolding firstBad clean

@@ -16,7 +16,8 @@ use Rattle.model.proofs.Frame.{occ-append, occ-self, occ-nil}
 use Rattle.model.proofs.Once.{occ-other, once, lower}
 use Rattle.model.proofs.Lookup.{is-empty, not-empty}
 use Rattle.formed.proofs.Pairs.{none-in}
-use Rattle.formed.proofs.Clean.{clean, clear-clean, clean-clear, reads, sound-clean, reads-well, well-clean, wrongEnds, firstOf, first-wrong}
+use Rattle.formed.specs.Visits.{clean}
+use Rattle.formed.proofs.Clean.{clear-clean, clean-clear, reads, sound-clean, reads-well, well-clean, wrongEnds, firstOf, first-wrong}
 use Rattle.formed.proofs.Ends.{sound-well, well-ends}
 
 -- An empty root ------------------------------------------------------------------------------------------

@@ -11,12 +11,13 @@ use lib.Dec.{T, ltb, eqb}
 use borrow.Author.Tests.{eq-eqb, ne-eqb, le-leb}
 use Rattle.model.specs.Words.{Shape, pick, height, count, start, end, row, child, maxHeight}
 use Rattle.model.specs.Tree.{Limit, Open, pairsFrom, sound, Level, level, next, last, overPairs, allPairs, AllSound}
-use Rattle.model.specs.Reading.{Visit, Enter, Leave, Bad, endFits, passes, visits, rootVisits, entries, inPairs, nodes, rootEntries, rootNodes}
+use Rattle.model.specs.Reading.{Visit, Enter, Leave, Bad, endFits, passes, visits, rootVisits, occ, entries, inPairs, nodes, rootEntries, rootNodes}
 use Rattle.model.specs.WellFormed.{EmptyRoot, SoundRoot, emptyTree, soundTree}
 use Rattle.model.proofs.Tests.{is-true}
-use Rattle.model.proofs.Frame.{length-pairs}
+use Rattle.model.proofs.Frame.{length-pairs, occ-append, occ-nil}
 use Rattle.model.proofs.Once.{own}
 use Rattle.model.proofs.Lookup.{is-empty, not-empty}
+use Rattle.formed.specs.Visits.{lefts, enters}
 use Rattle.formed.specs.Well.{Well}
 use Rattle.formed.proofs.Rooted.{empty-nodes, empty-entries}
 use Rattle.formed.proofs.Few.{leaf-entries}
@@ -27,13 +28,6 @@ entered [] = 0
 entered (Enter n ∷ vs) = suc (entered vs)
 entered (Leave n ∷ vs) = entered vs
 entered (Bad n ∷ vs) = entered vs
-
--- the nodes left, in turn
-unfoldable pub left : List Visit → List ℕ
-left [] = []
-left (Enter n ∷ vs) = left vs
-left (Leave n ∷ vs) = n ∷ left vs
-left (Bad n ∷ vs) = left vs
 
 -- the entries of the leaves entered
 unfoldable pub pagesIn : Shape → List ℕ → List Visit → ℕ
@@ -49,12 +43,19 @@ entered-append (Enter n ∷ a) b = omega (arith, entered-append a b)
 entered-append (Leave n ∷ a) b = entered-append a b
 entered-append (Bad n ∷ a) b = entered-append a b
 
-pub left-append : (a b : List Visit) → left (a ++ b) ≡ left a ++ left b
-unfolding left
+pub left-append : (a b : List Visit) → lefts (a ++ b) ≡ lefts a ++ lefts b
+unfolding lefts
 left-append [] b = refl
 left-append (Enter n ∷ a) b = left-append a b
 left-append (Leave n ∷ a) b = ap (λ (l : List ℕ). n ∷ l) (left-append a b)
 left-append (Bad n ∷ a) b = left-append a b
+
+pub enters-append : (a b : List Visit) → enters (a ++ b) ≡ enters a ++ enters b
+unfolding enters
+enters-append [] b = refl
+enters-append (Enter n ∷ a) b = ap (λ (l : List ℕ). n ∷ l) (enters-append a b)
+enters-append (Leave n ∷ a) b = enters-append a b
+enters-append (Bad n ∷ a) b = enters-append a b
 
 pub pages-append : (C : Shape) (w : List ℕ) (a b : List Visit) → pagesIn C w (a ++ b) ≡ pagesIn C w a + pagesIn C w b
 unfolding pagesIn
@@ -66,9 +67,9 @@ pages-append C w (Bad n ∷ a) b = pages-append C w a b
 -- Nodes --------------------------------------------------------------------------------------------------
 
 module _ (C : Shape) (P : ℕ) where
-  pub left-pairs : {K : Type 0} (f : K → ℕ → Limit → List Visit) (ns : K → List ℕ) (Q : K → ℕ → Limit → Type 0) → ((x : K) (r : ℕ) (b : Limit) → Q x r b → left (f x r b) ≡ ns x)
-      → (ps : List (ℕ × K)) (b : Limit) → allPairs Q ps b → left (overPairs f ps b) ≡ inPairs ns ps
-  unfolding overPairs inPairs allPairs left
+  pub left-pairs : {K : Type 0} (f : K → ℕ → Limit → List Visit) (ns : K → List ℕ) (Q : K → ℕ → Limit → Type 0) → ((x : K) (r : ℕ) (b : Limit) → Q x r b → lefts (f x r b) ≡ ns x)
+      → (ps : List (ℕ × K)) (b : Limit) → allPairs Q ps b → lefts (overPairs f ps b) ≡ inPairs ns ps
+  unfolding overPairs inPairs allPairs lefts
   left-pairs f ns Q g [] b a = refl
   left-pairs f ns Q g (p ∷ ps) b a =
       left-append (f (p .1) (p .0) (next ps b)) (overPairs f ps b) ∙ ap₂ (λ (k l : List ℕ). k ++ l) (g (p .1) (p .0) (next ps b) (a .0)) (left-pairs f ns Q g ps b (a .1))
@@ -90,25 +91,52 @@ module _ (C : Shape) (P : ℕ) where
   unfolding AllSound
   sound-visits h m t r b g = visits-is false h m t r b (g .0) (sound-passes h t r b (g .1))
 
-  pub left-nodes : (h m : ℕ) (t : Level h) (r : ℕ) (b : Limit) → AllSound C P h t r b → left (visits false C P h m t r b) ≡ nodes h t
-  unfolding AllSound nodes left visits
+  pub left-nodes : (h m : ℕ) (t : Level h) (r : ℕ) (b : Limit) → AllSound C P h t r b → lefts (visits false C P h m t r b) ≡ nodes h t
+  unfolding AllSound nodes lefts visits
   left-nodes zero m t r b g = refl
   left-nodes (suc h) m t r b g =
-      ap left (sound-visits h m t r b g) ∙ left-append (lower false h m t r b) (Leave (t .number) ∷ [])
+      ap lefts (sound-visits h m t r b g) ∙ left-append (lower false h m t r b) (Leave (t .number) ∷ [])
       ∙ ap (λ (l : List ℕ). l ++ (t .number ∷ [])) (left-pairs (visits false C P h (t .number)) (nodes h) (AllSound C P h) (left-nodes h (t .number)) (t .pairs) (last h (t .end) b) (g .2))
 
+  -- the nodes entered are those left, in another order
+  pairs-enters : {K : Type 0} (f : K → ℕ → Limit → List Visit) (ns : K → List ℕ) (Q : K → ℕ → Limit → Type 0) (n : ℕ) → ((x : K) (r : ℕ) (b : Limit) → Q x r b → occ n (enters (f x r b)) ≡ occ n (ns x))
+      → (ps : List (ℕ × K)) (b : Limit) → allPairs Q ps b → occ n (enters (overPairs f ps b)) ≡ occ n (inPairs ns ps)
+  unfolding overPairs inPairs allPairs enters
+  pairs-enters f ns Q n g [] b a = refl
+  pairs-enters f ns Q n g (p ∷ ps) b a =
+      let v = f (p .1) (p .0) (next ps b) in
+      let vs = overPairs f ps b in
+      ap (occ n) (enters-append v vs)
+      ∙ omega (arith, occ-append n (enters v) (enters vs), occ-append n (ns (p .1)) (inPairs ns ps), g (p .1) (p .0) (next ps b) (a .0), pairs-enters f ns Q n g ps b (a .1))
+
+  pub enters-nodes : (n h m : ℕ) (t : Level h) (r : ℕ) (b : Limit) → AllSound C P h t r b → occ n (enters (visits false C P h m t r b)) ≡ occ n (nodes h t)
+  unfolding AllSound nodes enters visits
+  enters-nodes n zero m t r b g = refl
+  enters-nodes n (suc h) m t r b g =
+      let vs = lower false h m t r b in
+      ap (λ (z : List Visit). occ n (enters z)) (sound-visits h m t r b g)
+      ∙ omega (
+        arith,
+        occ-append n (t .number ∷ []) (enters (vs ++ (Leave (t .number) ∷ []))),
+        ap (occ n) (enters-append vs (Leave (t .number) ∷ [])),
+        occ-append n (enters vs) [],
+        occ-append n (inPairs (nodes h) (t .pairs)) (t .number ∷ []),
+        occ-nil n,
+        pairs-enters (visits false C P h (t .number)) (nodes h) (AllSound C P h) n (enters-nodes n h (t .number)) (t .pairs) (last h (t .end) b) (g .2),
+      )
+
   -- as many nodes are entered as are left
-  pairs-entered : {K : Type 0} (f : K → ℕ → Limit → List Visit) → ((x : K) (r : ℕ) (b : Limit) → entered (f x r b) ≡ length (left (f x r b)))
-      → (ps : List (ℕ × K)) (b : Limit) → entered (overPairs f ps b) ≡ length (left (overPairs f ps b))
-  unfolding overPairs entered left
+  pairs-entered : {K : Type 0} (f : K → ℕ → Limit → List Visit) → ((x : K) (r : ℕ) (b : Limit) → entered (f x r b) ≡ length (lefts (f x r b)))
+      → (ps : List (ℕ × K)) (b : Limit) → entered (overPairs f ps b) ≡ length (lefts (overPairs f ps b))
+  unfolding overPairs entered lefts
   pairs-entered f g [] b = refl
   pairs-entered f g (p ∷ ps) b =
       let v = f (p .1) (p .0) (next ps b) in
       let vs = overPairs f ps b in
-      omega (arith, entered-append v vs, ap length (left-append v vs), length-append (left v) (left vs), g (p .1) (p .0) (next ps b), pairs-entered f g ps b)
+      omega (arith, entered-append v vs, ap length (left-append v vs), length-append (lefts v) (lefts vs), g (p .1) (p .0) (next ps b), pairs-entered f g ps b)
 
-  pub entered-left : (ends : Bool) (h m : ℕ) (t : Level h) (r : ℕ) (b : Limit) → entered (visits ends C P h m t r b) ≡ length (left (visits ends C P h m t r b))
-  unfolding visits entered left
+  pub entered-left : (ends : Bool) (h m : ℕ) (t : Level h) (r : ℕ) (b : Limit) → entered (visits ends C P h m t r b) ≡ length (lefts (visits ends C P h m t r b))
+  unfolding visits entered lefts
   entered-left ends zero m t r b = refl
   entered-left ends (suc h) m t r b =
       go (pairs-entered (visits ends C P h (t .number)) (entered-left ends h (t .number)) (t .pairs) (last h (t .end) b)) (ltb (t .number) P) (passes ends C h t r b)
@@ -119,8 +147,8 @@ module _ (C : Shape) (P : ℕ) where
       whole : List Visit
       whole = Enter (t .number) ∷ (vs ++ (Leave (t .number) ∷ []))
 
-      go : entered vs ≡ length (left vs) → (p s : Bool) → entered (pick p (pick s whole (Bad (t .number) ∷ [])) (Bad m ∷ [])) ≡ length (left (pick p (pick s whole (Bad (t .number) ∷ [])) (Bad m ∷ [])))
-      go e true true = omega (arith, entered-append vs (Leave (t .number) ∷ []), ap length (left-append vs (Leave (t .number) ∷ [])), length-append (left vs) (t .number ∷ []))
+      go : entered vs ≡ length (lefts vs) → (p s : Bool) → entered (pick p (pick s whole (Bad (t .number) ∷ [])) (Bad m ∷ [])) ≡ length (lefts (pick p (pick s whole (Bad (t .number) ∷ [])) (Bad m ∷ [])))
+      go e true true = omega (arith, entered-append vs (Leave (t .number) ∷ []), ap length (left-append vs (Leave (t .number) ∷ [])), length-append (lefts vs) (t .number ∷ []))
       go e true false = refl
       go e false s = refl
 
@@ -189,10 +217,10 @@ module _ (C : Shape) (P : ℕ) (w : List ℕ) (n : ℕ) where
   unfolding rootVisits
   blank-visits ends e = rw (is-empty C w n e)
 
-  pub root-left : SoundRoot C P w tall n → left (rootVisits false C P w n) ≡ rootNodes C w n
-  unfolding left
-  root-left (emptyTree e) = ap left (blank-visits false e) ∙ sym (empty-nodes C w tall n e)
-  root-left (soundTree l g) = ap left (tree-visits l g) ∙ left-nodes C P (suc tall) n (level C w (suc tall) n) (start C w n) Open g
+  pub root-left : SoundRoot C P w tall n → lefts (rootVisits false C P w n) ≡ rootNodes C w n
+  unfolding lefts
+  root-left (emptyTree e) = ap lefts (blank-visits false e) ∙ sym (empty-nodes C w tall n e)
+  root-left (soundTree l g) = ap lefts (tree-visits l g) ∙ left-nodes C P (suc tall) n (level C w (suc tall) n) (start C w n) Open g
 
   pub root-entered : SoundRoot C P w tall n → entered (rootVisits false C P w n) ≡ length (rootNodes C w n)
   unfolding entered

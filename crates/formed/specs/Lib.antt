@@ -1,3 +1,4 @@
 pub mod Well
 pub mod Formed
 pub mod Holds
+pub mod Visits

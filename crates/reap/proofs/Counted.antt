@@ -18,11 +18,11 @@ use Rattle.model.specs.WellFormed.{soundTree}
 use Rattle.model.proofs.Frame.{all-child}
 use Rattle.model.proofs.Once.{own}
 use Rattle.model.proofs.Writes.{occ-cons, pairs-snoc}
+use Rattle.formed.specs.Visits.{clean, lefts}
 use Rattle.formed.proofs.Few.{root-few-nodes}
 use Rattle.reclaim.proofs.Under.{open-sound, sub-ready}
 use Rattle.reap.specs.Spine.{pairsAt, nodesAt, Beside, Spine, goneOf}
-use Rattle.formed.proofs.Clean.{clean}
-use Rattle.formed.proofs.Tally.{left as lefts, left-nodes}
+use Rattle.formed.proofs.Tally.{left-nodes}
 use Rattle.walk.specs.Left.{bound, rest, left, Valid}
 use Rattle.walk.specs.Turn.{hasChild}
 use Rattle.walk.proofs.Rest.{child-good, left-none}

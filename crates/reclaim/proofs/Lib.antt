@@ -1,4 +1,2 @@
-pub mod Leaving
 pub mod Freeing
 pub mod Root
-pub mod Under

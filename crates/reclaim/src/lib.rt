@@ -27,10 +27,7 @@ pub fn free_first(l: Layout, s: &mut [u64], root: NodeNo, k: u64)
         depth: 1,
     };
     let mut freed: u64 = 0;
-    while 0 < path.depth {
-        if k <= freed {
-            return;
-        }
+    while freed < k {
         let depth = path.depth;
         let at = depth - 1;
         let top = path.positions[at];

@@ -15,8 +15,7 @@ use Rattle.model.specs.WellFormed.{SoundRoot, emptyTree, soundTree}
 use Rattle.model.specs.Paths.{stack, lastOf}
 use Rattle.model.specs.declared.path.Path.{Path}
 use Rattle.model.proofs.Writes.{occ-cons}
-use Rattle.formed.proofs.Clean.{clean}
-use Rattle.formed.proofs.Tally.{left as lefts}
+use Rattle.formed.specs.Visits.{clean, lefts}
 use Rattle.walk.specs.Left.{lowest, left, ValidPath, Moves}
 use Rattle.walk.specs.Turn.{hasChild}
 use Rattle.walk.proofs.Rest.{left-none}

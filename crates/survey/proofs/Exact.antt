@@ -14,7 +14,8 @@ use Rattle.model.specs.Reading.{Visit, Enter, Leave, Bad, visits, rootVisits, F
 use Rattle.model.specs.WellFormed.{SoundRoot, emptyTree, soundTree}
 use Rattle.model.proofs.Tests.{by-test}
 use Rattle.model.proofs.Once.{own}
-use Rattle.formed.proofs.Clean.{clean, clear-clean}
+use Rattle.formed.specs.Visits.{clean}
+use Rattle.formed.proofs.Clean.{clear-clean}
 use Rattle.formed.proofs.Few.{root-few-nodes, root-few-entries}
 use Rattle.formed.proofs.Rooted.{sound-root}
 use Rattle.formed.proofs.Tally.{entered, pagesIn, lower, sound-visits, leaf-visits, tree-visits, blank-visits, root-entered, root-pages}

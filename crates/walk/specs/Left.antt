@@ -51,3 +51,8 @@ ValidPath C P w p = Valid C P w (lowest C w (trail p)) (trail p)
 pub record Moves (ends : Bool) (C : Shape) (P : ℕ) (w : List ℕ) (p : Path) (v : Visit) (q : Path) : Type 0 where
   pub one : left ends C P w p ≡ v ∷ left ends C P w q
   pub valid : ValidPath C P w q
+
+-- the nodes of positions
+unfoldable pub onPath : List Position → List ℕ
+onPath [] = []
+onPath (p ∷ up) = p .node .0 ∷ onPath up
