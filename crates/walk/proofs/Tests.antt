@@ -1,39 +1,22 @@
 -- The tests of a turn in the terms of the code.
 use Prim.Native.Nat.{ℕ, zero, suc, _+_, _-_, _<_, _≤_}
 use mathlib.Core.List.{List}
-use mathlib.Core.Bool.{Bool, true, false, _&&_, _||_, and-true, and-false}
+use mathlib.Core.Bool.{Bool, true, false, _&&_, and-true, false≢true}
 use mathlib.Core.Path.{_≡_, refl, sym, ap, _∙_}
 use native.Mathlib.Omega.{arith}
-use lib.Dec.{ltb, eqb}
-use borrow.Author.Tests.{lt-ltb, le-ltb, eq-eqb, ne-eqb}
-use Rattle.model.specs.Words.{Shape, pick, part, height, count, end, row, child, NONE}
-use Rattle.model.specs.Tree.{Limit, Open, Below, nodeAt, sound}
-use Rattle.model.specs.Reading.{endFits, passes, nextRow}
+use lib.Dec.{ltb}
+use borrow.Author.Tests.{lt-ltb, le-ltb, ltb-true, ltb-false}
+use Rattle.model.specs.Words.{Shape, pick, part, height, count, row, child}
+use Rattle.model.specs.Tree.{Limit, Below, nodeAt, sound}
+use Rattle.model.specs.Reading.{passes, nextRow}
 use Rattle.model.proofs.Tests.{by-test}
 use Rattle.node_test.specs.Test.{firstOut, nodeTest}
 use Rattle.node_test.specs.declared.NodeTest.{NodeTest}
 use Rattle.node_test.specs.declared.NodeTest.the-variants.{Unsound, Sound}
-use Rattle.walk.specs.Turn.{hasChild, outOf, Entering, goes, stops, entering}
-
-pub ends-leaf : (h : ℕ) (b : Limit) (e : ℕ) → h ≡ 0 → endFits h b e ≡ true
-unfolding endFits
-ends-leaf h b e z = rw z
-
-pub ends-none : (h : ℕ) (b : Limit) (e : ℕ) → (h ≡ 0 → ⊥) → e ≡ NONE → endFits h b e ≡ true
-unfolding endFits
-ends-none zero b e z q = absurd (z refl)
-ends-none (suc h) Open e z q = eq-eqb e NONE q
-ends-none (suc h) (Below r) e z q = rw (eq-eqb e NONE q)
-
-pub ends-open : (h : ℕ) (e : ℕ) → (h ≡ 0 → ⊥) → (e ≡ NONE → ⊥) → endFits h Open e ≡ false
-unfolding endFits
-ends-open zero e z q = absurd (z refl)
-ends-open (suc h) e z q = ne-eqb e NONE q
-
-pub ends-below : (h r e : ℕ) → (h ≡ 0 → ⊥) → (e ≡ NONE → ⊥) → endFits h (Below r) e ≡ eqb e r
-unfolding endFits
-ends-below zero r e z q = absurd (z refl)
-ends-below (suc h) r e z q = rw (ne-eqb e NONE q)
+use Rattle.model.specs.declared.path.Position.{Position}
+use Rattle.walk.specs.declared.turn.Step.the-variants.{Up, Down}
+use Rattle.walk.specs.Turn.{hasChild, outOf, Placed, Turning, up, down, bad, entering, turning, stepping}
+use Rattle.walk.proofs.Outs.{in-range, out-range}
 
 module _ (C : Shape) (P : ℕ) (w : List ℕ) (n h r : ℕ) (b : Limit) where
   -- the node test is what the walk asks of a node where ends are not looked at
@@ -80,10 +63,55 @@ module _ (C : Shape) (P : ℕ) (w : List ℕ) (n i : ℕ) (b : Limit) where
   abbrev pub tested : NodeTest
   tested = nodeTest C P w (child C w n i) (height C w n - 1) (row C w n i) (nextRow C w n i b)
 
-  pub enters : (first : ℕ) → tested ≡ Sound first → entering C P w n i b ≡ goes (child C w n i) (nextRow C w n i b) first
+  pub enters : (first : ℕ) → tested ≡ Sound first → entering C P w n i b ≡ down (child C w n i) (nextRow C w n i b) first
   unfolding entering
   enters first e = let s = pass-sound C P w (child C w n i) (height C w n - 1) (row C w n i) (nextRow C w n i b) first e in rw (s .0, s .1)
 
-  pub stays : tested ≡ Unsound → entering C P w n i b ≡ stops (child C w n i)
+  pub stays : tested ≡ Unsound → entering C P w n i b ≡ bad (child C w n i)
   unfolding entering
   stays e = rw (pass-unsound C P w (child C w n i) (height C w n - 1) (row C w n i) (nextRow C w n i b) e)
+
+-- a branch with an entry i
+pub branch : (C : Shape) (w : List ℕ) (n i : ℕ) → hasChild C w n i ≡ true → (0 < height C w n) × (i < count C w n)
+unfolding hasChild
+branch C w n i e =
+    by-test (ltb 0 (height C w n))
+    (λ u. by-test (ltb i (count C w n))
+    (λ v. (ltb-true 0 (height C w n) u, ltb-true i (count C w n) v))
+    (λ v. absurd (false≢true (rw (u, v) at e))))
+    (λ u. absurd (false≢true (rw u at e)))
+
+-- the turn at a position, by the tests of the code
+module _ (C : Shape) (P : ℕ) (w : List ℕ) (at : Position) (b : Limit) where
+  pub turns-up : hasChild C w (at .node .0) (at .index) ≡ false → turning C P w (at .node .0) (at .index) b ≡ up
+  unfolding turning
+  turns-up e = rw e
+
+  module _ (first : ℕ) (p : Placed C P w at first) (e : hasChild C w (at .node .0) (at .index) ≡ true) where
+    far : first ≤ at .index → P ≤ child C w (at .node .0) (at .index)
+    far h =
+        let t = branch C w (at .node .0) (at .index) e in
+        out-range C P w (at .node .0) (height C w (at .node .0)) (t .0) (at .index) (omega (arith, p .first-is, p .ahead)) (t .1)
+
+    pub turns-far : first ≤ at .index → turning C P w (at .node .0) (at .index) b ≡ bad (at .node .0)
+    unfolding turning
+    turns-far h = rw (e, le-ltb (child C w (at .node .0) (at .index)) P (far h))
+
+    pub before : child C w (at .node .0) (at .index) < P → at .index < first
+    before l = by-test (ltb (at .index) first) (λ t. ltb-true (at .index) first t) (λ t. absurd (omega (arith, far (ltb-false (at .index) first t))))
+
+    pub ranged : at .index < first → child C w (at .node .0) (at .index) < P
+    ranged h = in-range C P w (at .node .0) (height C w (at .node .0)) (branch C w (at .node .0) (at .index) e .0) (at .index) (omega (arith, p .first-is))
+
+    pub turns-in : at .index < first → turning C P w (at .node .0) (at .index) b ≡ entering C P w (at .node .0) (at .index) b
+    unfolding turning
+    turns-in h = rw (e, lt-ltb (child C w (at .node .0) (at .index)) P (ranged h))
+
+module _ (C : Shape) (w : List ℕ) (n i : ℕ) where
+  pub steps-up : hasChild C w n i ≡ false → stepping C w n i ≡ Up
+  unfolding stepping
+  steps-up e = rw e
+
+  pub steps-in : hasChild C w n i ≡ true → stepping C w n i ≡ Down (record { 0 = child C w n i })
+  unfolding stepping
+  steps-in e = rw e

@@ -1,35 +1,18 @@
-// The parts of a turn of the walk.
+// One turn of the walk, and its parts.
 
 ghost use mathlib.Core.Path.{_≡_};
 ghost use Prim.Native.Nat.{_+_, _-_, _≤_, _<_};
 ghost use Rattle.model.specs.Words.{child, count, height};
-ghost use Rattle.model.specs.Reading.{endFits, nextRow};
+ghost use Rattle.model.specs.Reading.{nextRow};
 ghost use Rattle.node.specs.Layout.{Fits, shapeOf};
 ghost use Rattle.node_test.specs.Test.{limitOf};
-ghost use Rattle.walk.specs.Turn.{entering, enteredOf, hasChild};
+ghost use Rattle.walk.specs.Turn.{Placed, entering, hasChild, stepping, turnOf, turning};
 use model::id::NodeNo;
-use model::id::RowID;
-use model::node::RowPageIndexNodeHeader;
+use model::path::Position;
 use node::layout::Layout;
 use node_test;
 use node_test::Limit;
 use node_test::NodeTest;
-
-// Whether a branch may end so: at NONE, or off the right edge where the next entry begins.
-pub fn end_fits(height: u64, next: Limit, end: RowID) -> bool
-    ensures { λ r. ⌜ r ≡ endFits height (limitOf next) (end .0) ⌝ }
-{
-    if height == 0 {
-        return true;
-    }
-    if end.0 == RowPageIndexNodeHeader::NONE {
-        return true;
-    }
-    match next {
-        Limit::Open => false,
-        Limit::Below(row) => end.0 == row.0,
-    }
-}
 
 // Whether node n is a branch with an entry i.
 pub fn has_child(l: Layout, s: &[u64], n: NodeNo, i: u64) -> bool
@@ -57,24 +40,65 @@ pub fn next_row(l: Layout, s: &[u64], n: NodeNo, i: u64, next: Limit) -> Limit
     next
 }
 
-// A child entered, with what is next for it and the first of its child numbers out of range; or unsound.
-pub enum Entered {
-    Child(NodeNo, Limit, u64),
+// The node is left; a child is entered, with what is next for it and the first of its child numbers out of range; or a
+// node is unsound.
+pub enum Turn {
+    Up,
+    Down(NodeNo, Limit, u64),
     Bad(NodeNo),
 }
 
 // Child i of branch n, whose number is in range.
-pub fn enter(l: Layout, s: &[u64], n: NodeNo, i: u64, next: Limit) -> Entered
+fn enter(l: Layout, s: &[u64], n: NodeNo, i: u64, next: Limit) -> Turn
     requires { ⌜ Fits l (now s) ⌝ }
     requires { ⌜ (n .0 < l .pool) × (0 < height (shapeOf l) (now s) (n .0)) × (i < count (shapeOf l) (now s) (n .0)) × (count (shapeOf l) (now s) (n .0) ≤ l .capacity) × (child (shapeOf l) (now s) (n .0) i < l .pool) ⌝ }
-    ensures { λ r. ⌜ enteredOf r ≡ entering (shapeOf l) (l .pool) (now (s .entry)) (n .0) i (limitOf next) ⌝ }
+    ensures { λ r. ⌜ turnOf r ≡ entering (shapeOf l) (l .pool) (now (s .entry)) (n .0) i (limitOf next) ⌝ }
 {
     let h = l.header(s, n);
     let row = l.row(s, n, i);
     let child = l.child(s, n, i);
     let beyond = next_row(l, s, n, i, next);
     match node_test::test_node(l, s, child, h.height - 1, row, beyond) {
-        NodeTest::Sound(first) => Entered::Child(child, beyond, first),
-        NodeTest::Unsound => Entered::Bad(child),
+        NodeTest::Sound(first) => Turn::Down(child, beyond, first),
+        NodeTest::Unsound => Turn::Bad(child),
     }
+}
+
+// The turn at a position, with the first of its node's child numbers out of range and what is next for the node.
+pub fn tested(l: Layout, s: &[u64], at: Position, first: u64, next: Limit) -> Turn
+    requires { ⌜ Fits l (now s) ⌝ }
+    requires { ⌜ Placed (shapeOf l) (l .pool) (now s) at first ⌝ }
+    ensures { λ r. ⌜ turnOf r ≡ turning (shapeOf l) (l .pool) (now (s .entry)) (at .node .0) (at .index) (limitOf next) ⌝ }
+{
+    let node = at.node;
+    let index = at.index;
+    let more = has_child(l, s, node, index);
+    if !more {
+        return Turn::Up;
+    }
+    if first <= index {
+        return Turn::Bad(node);
+    }
+    enter(l, s, node, index, next)
+}
+
+// The node is left, or a child is entered.
+pub enum Step {
+    Up,
+    Down(NodeNo),
+}
+
+// The turn at a position of a tree that is known to be sound: nothing is tested.
+pub fn untested(l: Layout, s: &[u64], at: Position) -> Step
+    requires { ⌜ Fits l (now s) ⌝ }
+    requires { ⌜ (at .node .0 < l .pool) × (count (shapeOf l) (now s) (at .node .0) ≤ l .capacity) ⌝ }
+    ensures { λ r. ⌜ r ≡ stepping (shapeOf l) (now (s .entry)) (at .node .0) (at .index) ⌝ }
+{
+    let node = at.node;
+    let index = at.index;
+    let more = has_child(l, s, node, index);
+    if !more {
+        return Step::Up;
+    }
+    Step::Down(l.child(s, node, index))
 }

@@ -3,8 +3,11 @@
 ghost use mathlib.Core.Path.{_≡_};
 ghost use mathlib.Core.Bool.{true, false};
 ghost use Prim.Native.Nat.{_-_};
+ghost use Rattle.model.specs.Reading.{endFits};
+ghost use Rattle.node_test.specs.Test.{limitOf};
 ghost use Rattle.walk_limit.specs.Limits.{bounded, limit, rowOf};
 use model::id::RowID;
+use model::node::RowPageIndexNodeHeader;
 use node_test::Limit;
 
 // What is next, as the walk keeps it: a flag and a row. An enum is copied with its unused bytes, which made the walk slower.
@@ -32,5 +35,21 @@ pub fn row_of(next: Limit) -> u64
     match next {
         Limit::Open => 0,
         Limit::Below(row) => row.0,
+    }
+}
+
+// Whether a branch may end so: at NONE, or off the right edge where the next entry begins.
+pub fn end_fits(height: u64, next: Limit, end: RowID) -> bool
+    ensures { λ r. ⌜ r ≡ endFits height (limitOf next) (end .0) ⌝ }
+{
+    if height == 0 {
+        return true;
+    }
+    if end.0 == RowPageIndexNodeHeader::NONE {
+        return true;
+    }
+    match next {
+        Limit::Open => false,
+        Limit::Below(row) => end.0 == row.0,
     }
 }

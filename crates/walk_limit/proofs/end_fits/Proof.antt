@@ -2,9 +2,9 @@ use borrow.Author.Needs.{needs}
 use mathlib.Core.Path.{sym, _∙_, ap}
 use Rattle.model.specs.Reading.{endFits}
 use Rattle.node_test.specs.Test.{limitOf}
-use Rattle.walk.proofs.Tests.{ends-leaf, ends-none, ends-open, ends-below}
-use Rattle.walk.proofs.turn.end_fits.Statement.{statement}
-use Rattle.walk.proofs.turn.end_fits.Tie as tie
+use Rattle.walk_limit.proofs.Ends.{ends-leaf, ends-none, ends-open, ends-below}
+use Rattle.walk_limit.proofs.end_fits.Statement.{statement}
+use Rattle.walk_limit.proofs.end_fits.Tie as tie
 
 returns : tie.Need-returns
 returns c = sym (ends-leaf _ _ _ (c .if1 .taken))
