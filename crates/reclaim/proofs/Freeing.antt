@@ -2,16 +2,15 @@
 -- that were not freed yet, and no soundness test is needed.
 use Prim.Native.Nat.{ℕ, suc, _+_, _-_, _<_, _≤_}
 use mathlib.Core.List.{List, [], _∷_, _++_}
-use mathlib.Core.Bool.{true, false}
+use mathlib.Core.Bool.{false}
 use mathlib.Core.Path.{_≡_, refl, sym, ap, _∙_, subst}
 use native.Mathlib.Omega.{arith}
-use lib.ListN.{length, take}
+use lib.ListN.{length}
 use lib.Dec.{T, ltb}
 use borrow.Author.Tests.{ltb-true, ltb-false}
-use Rattle.model.specs.Words.{Shape, height, count, row, child, childPlace, freeCount, Header, freed, freeAll}
-use Rattle.model.specs.Tree.{nodeAt}
-use Rattle.model.specs.Reading.{Visit, Enter, Leave, Bad, passes, occ}
-use Rattle.model.specs.Paths.{trail, lastOf, above, turned}
+use Rattle.model.specs.Words.{Shape, height, count, child, childPlace, freeCount, Header, freed, freeAll}
+use Rattle.model.specs.Reading.{Visit, Enter, Leave, Bad, occ}
+use Rattle.model.specs.Paths.{trail, lastOf, above}
 use Rattle.model.specs.declared.path.Position.{Position}
 use Rattle.model.specs.declared.path.Path.{Path}
 use Rattle.model.proofs.Tests.{by-test}
@@ -20,18 +19,21 @@ use Rattle.model.proofs.Paths.{stack-pop}
 use Rattle.model.proofs.Frame.{Same, occ-self}
 use Rattle.model.proofs.Writes.{occ-cons, freed-length, freed-keeps, freed-count}
 use Rattle.formed.specs.Visits.{clean, lefts, enters}
-use Rattle.walk.specs.Left.{bound, left, ValidPath, Moves, onPath}
-use Rattle.walk.specs.Turn.{hasChild}
+use Rattle.walk.specs.Left.{left, ValidPath, Moves, onPath}
+use Rattle.walk.specs.Turn.{hasChild, stepping}
+use Rattle.walk.specs.declared.turn.Step.{Step}
+use Rattle.walk.specs.declared.turn.Step.the-variants.{Up, Down}
 use Rattle.walk.proofs.Valid.{Top, valid-top}
 use Rattle.walk.proofs.Rest.{left-none}
-use Rattle.walk.proofs.Moves.{far-move, bad-move, enter-move}
-use Rattle.walk.proofs.Branch.{branch, move-out}
-use Rattle.walk.proofs.InPlace.{popped, turnedPath, enteredPath, turned-trail, entered-trail, entered-length}
+use Rattle.walk.proofs.InPlace.{popped, turnedPath, enteredPath, entered-trail, entered-length}
+use Rattle.walk.proofs.Branch.{step-same}
+use Rattle.walk.proofs.Turns.{falls, Sure, at-top, step-up, step-room, step-short, step-down}
 
 -- What holds at a turn: j of k nodes are freed in words s, and W are the words at the end. The visits seen are the next ones.
 pub record Freeable (C : Shape) (P : ℕ) (w W : List ℕ) (k j : ℕ) (s : List ℕ) (p : Path) : Type 0 where
   pub header : Header (C .cap) P s
   pub valid : ValidPath C P w p
+  pub deep : p .depth ≤ 32
   pub long : length (p .positions) ≡ 32
   pub seen : List Visit
   pub after : List Visit
@@ -75,9 +77,6 @@ module _ {C : Shape} {P : ℕ} {w W : List ℕ} {k j : ℕ} {s : List ℕ} {p : 
       none (x ∷ a) b e = let y : _≡_ {A = ℕ} 0 1 = cc in absurd (omega arith)
 
   module _ (z : 0 < p .depth) where
-    pub last-top : Top C P w (p .positions) (p .depth) (height C w (lastOf p .node .0))
-    last-top = valid-top C P w p z (f .valid)
-
     pops : trail p ≡ lastOf p ∷ above p
     pops = stack-pop (p .positions) (p .depth) z
 
@@ -86,89 +85,76 @@ module _ {C : Shape} {P : ℕ} {w W : List ℕ} {k j : ℕ} {s : List ℕ} {p : 
     on-top m = ap (λ (st : List Position). occ m (onPath st)) pops ∙ occ-cons m (lastOf p .node .0) (onPath (above p))
 
     -- the last node has the words that it had
-    pub same-last : Same C w s (lastOf p .node .0)
+    same-last : Same C w s (lastOf p .node .0)
     same-last = f .same (lastOf p .node .0) (omega (arith, on-top (lastOf p .node .0), occ-self (lastOf p .node .0)))
 
-    pub same-child : hasChild C s (lastOf p .node .0) (lastOf p .index) ≡ hasChild C w (lastOf p .node .0) (lastOf p .index)
-    unfolding hasChild
-    same-child = rw (same-last 0 (omega arith), same-last 1 (omega arith))
+    pub last-in : (lastOf p .node .0 < P) × (count C s (lastOf p .node .0) ≤ C .cap)
+    last-in = let t = valid-top C P w p z (f .valid) in (t .inside, omega (arith, t .narrow, same-last 1 (omega arith)))
+
+    pub same-step : (x : Step) → x ≡ stepping C s (lastOf p .node .0) (lastOf p .index) → x ≡ stepping C w (lastOf p .node .0) (lastOf p .index)
+    same-step x e = e ∙ sym (step-same C w s (lastOf p .node .0) (lastOf p .index) same-last (valid-top C P w p z (f .valid) .narrow))
 
     module _ (l : j < k) where
-      -- the last node is left, and freed
-      pub goes-out : hasChild C w (lastOf p .node .0) (lastOf p .index) ≡ false → Freeable C P w W k (j + 1) (freed C s (lastOf p .node .0)) (popped p)
-      unfolding clean lefts enters freeAll
-      goes-out e =
-          let n = lastOf p .node .0 in
-          let a = move-out false C P w p (f .valid) z (popped p) e refl in
-          let q = first-seen (f .seen) (f .after) (left false C P w (popped p)) (Leave n) (sym (f .parts) ∙ a .one) (omega (arith, f .many)) in
-          let more = q .0 in
-          let long-is : length (lefts (f .seen)) ≡ suc (length (lefts more)) = ap (λ (vs : List Visit). length (lefts vs)) (q .1) in
-          let in-is : (m : ℕ) → occ m (enters (f .seen)) ≡ occ m (enters more) = λ m. ap (λ (vs : List Visit). occ m (enters vs)) (q .1) in
+      -- the next visit is no unsound node
+      pub sure : Sure C P w p
+      unfolding clean
+      sure =
           record {
-            header = header-at (C .cap) P s (freed C s n) (f .header) (freed-length C s n);
-            valid = a .valid;
+            valid = f .valid;
+            deep = f .deep;
             long = f .long;
-            seen = more;
-            after = f .after;
-            parts = q .2;
-            all-clean = subst (λ (vs : List Visit). T (clean vs)) (q .1) (f .all-clean);
-            once-each = λ m. omega (arith, f .once-each m, on-top m, in-is m);
-            same = λ m h i b. (f .same m (omega (arith, on-top m, in-is m)) i b ∙ freed-keeps C s n m (λ x. absurd (omega (arith, f .once-each n, on-top n, in-is n, occ-self n, subst (λ (y : ℕ). 0 < occ y (onPath (above p)) + occ y (enters more)) x h))) i b);
-            many = omega (arith, f .many, long-is);
-            room = omega (arith, f .room, long-is, freed-count C s n P (f .header));
-            told = f .told ∙ ap (λ (vs : List Visit). freeAll C s (lefts vs)) (q .1);
+            no-bad = λ m a. (let q = first-seen (f .seen) (f .after) _ (Bad m) (sym (f .parts) ∙ a .one) (omega (arith, f .many)) in
+            absurd (subst (λ (vs : List Visit). T (clean vs)) (q .1) (f .all-clean)));
           }
 
-      pub less-out : hasChild C w (lastOf p .node .0) (lastOf p .index) ≡ false → length (left false C P w (popped p)) < length (left false C P w p)
-      less-out e = rw (move-out false C P w p (f .valid) z (popped p) e refl .one) (omega arith)
-
-      module _ (e : hasChild C w (lastOf p .node .0) (lastOf p .index) ≡ true) where
-        abbrev pub kid : ℕ
-        kid = child C w (lastOf p .node .0) (lastOf p .index)
-
-        pub inside : lastOf p .index < count C w (lastOf p .node .0)
-        inside = branch C w (lastOf p .node .0) (lastOf p .index) e .1
-
-        pub deep : p .depth < 32
-        deep = omega (arith, last-top .deep, branch C w (lastOf p .node .0) (lastOf p .index) e .0)
-
-        pub same-kid : child C s (lastOf p .node .0) (lastOf p .index) ≡ kid
-        same-kid = sym (same-last (childPlace (lastOf p .index)) (omega (arith, inside, last-top .narrow)))
-
-        no-bad : {A : Type 0} (n : ℕ) → Moves false C P w p (Bad n) (turnedPath p) → A
-        unfolding clean
-        no-bad n a =
-            let q = first-seen (f .seen) (f .after) _ (Bad n) (sym (f .parts) ∙ a .one) (omega (arith, f .many)) in
-            absurd (subst (λ (vs : List Visit). T (clean vs)) (q .1) (f .all-clean))
-
-        -- a child that no visit calls unsound is entered
-        sound-in : Moves false C P w p (Enter kid) (enteredPath p kid)
-        sound-in =
+      -- the last node is left, and freed
+      module _ (e : Up ≡ stepping C w (lastOf p .node .0) (lastOf p .index)) where
+        pub goes-out : Freeable C P w W k (j + 1) (freed C s (lastOf p .node .0)) (popped p)
+        unfolding clean lefts enters freeAll
+        goes-out =
             let n = lastOf p .node .0 in
-            let g = height C w n - 1 in
-            let hi : height C w n ≡ suc g = omega (arith, branch C w n (lastOf p .index) e .0) in
-            let t = turned-trail p z (f .long) (omega (arith, deep)) in
-            by-test (ltb kid P)
-            (λ u. let i = ltb-true kid P u in
-            by-test (passes false C g (nodeAt C w kid) (row C w n (lastOf p .index)) (bound C w (turned (lastOf p) ∷ above p)))
-            (λ b. enter-move false C P w p (f .valid) z (enteredPath p kid) g hi inside i b (entered-trail p z (f .long) kid deep))
-            (λ b. no-bad kid (bad-move false C P w p (f .valid) z (turnedPath p) g hi inside i b t)))
-            (λ u. no-bad n (far-move false C P w p (f .valid) z (turnedPath p) g hi inside (ltb-false kid P u) t))
+            let a = step-up sure z e in
+            let q = first-seen (f .seen) (f .after) (left false C P w (popped p)) (Leave n) (sym (f .parts) ∙ a .one) (omega (arith, f .many)) in
+            let more = q .0 in
+            let long-is : length (lefts (f .seen)) ≡ suc (length (lefts more)) = ap (λ (vs : List Visit). length (lefts vs)) (q .1) in
+            let in-is : (m : ℕ) → occ m (enters (f .seen)) ≡ occ m (enters more) = λ m. ap (λ (vs : List Visit). occ m (enters vs)) (q .1) in
+            record {
+              header = header-at (C .cap) P s (freed C s n) (f .header) (freed-length C s n);
+              valid = a .valid;
+              deep = omega (arith, f .deep);
+              long = f .long;
+              seen = more;
+              after = f .after;
+              parts = q .2;
+              all-clean = subst (λ (vs : List Visit). T (clean vs)) (q .1) (f .all-clean);
+              once-each = λ m. omega (arith, f .once-each m, on-top m, in-is m);
+              same = λ m h i b. (f .same m (omega (arith, on-top m, in-is m)) i b
+                  ∙ freed-keeps C s n m (λ x. absurd (omega (arith, f .once-each n, on-top n, in-is n, occ-self n, subst (λ (y : ℕ). 0 < occ y (onPath (above p)) + occ y (enters more)) x h))) i b);
+              many = omega (arith, f .many, long-is);
+              room = omega (arith, f .room, long-is, freed-count C s n P (f .header));
+              told = f .told ∙ ap (λ (vs : List Visit). freeAll C s (lefts vs)) (q .1);
+            }
 
-        pub goes-in : Freeable C P w W k j s (enteredPath p kid)
+        pub less-out : length (left false C P w (popped p)) < length (left false C P w p)
+        less-out = falls (step-up sure z e)
+
+      -- a child is entered
+      module _ (c : ℕ) (e : Down (record { 0 = c }) ≡ stepping C w (lastOf p .node .0) (lastOf p .index)) where
+        pub goes-in : Freeable C P w W k j s (enteredPath p c)
         unfolding clean lefts enters onPath
         goes-in =
             let n = lastOf p .node .0 in
-            let a = sound-in in
-            let q = first-seen (f .seen) (f .after) (left false C P w (enteredPath p kid)) (Enter kid) (sym (f .parts) ∙ a .one) (omega (arith, f .many)) in
+            let a = step-down sure z c e in
+            let q = first-seen (f .seen) (f .after) (left false C P w (enteredPath p c)) (Enter c) (sym (f .parts) ∙ a .one) (omega (arith, f .many)) in
             let more = q .0 in
             let left-is : lefts (f .seen) ≡ lefts more = ap (λ (vs : List Visit). lefts vs) (q .1) in
-            let on-is : (m : ℕ) → occ m (onPath (trail (enteredPath p kid))) + occ m (enters more) ≡ occ m (onPath (trail p)) + occ m (enters (f .seen)) =
-            λ m. omega (arith, on-top m, ap (λ (vs : List Visit). occ m (enters vs)) (q .1), occ-cons m kid (enters more), ap (λ (st : List Position). occ m (onPath st)) (entered-trail p z (f .long) kid deep), occ-cons m kid (n ∷ onPath (above p)), occ-cons m n (onPath (above p))) in
+            let on-is : (m : ℕ) → occ m (onPath (trail (enteredPath p c))) + occ m (enters more) ≡ occ m (onPath (trail p)) + occ m (enters (f .seen)) =
+            λ m. omega (arith, on-top m, ap (λ (vs : List Visit). occ m (enters vs)) (q .1), occ-cons m c (enters more), ap (λ (st : List Position). occ m (onPath st)) (entered-trail p z (f .long) c (step-room sure z c e)), occ-cons m c (n ∷ onPath (above p)), occ-cons m n (onPath (above p))) in
             record {
               header = f .header;
               valid = a .valid;
-              long = entered-length p z (f .long) kid;
+              deep = omega (arith, step-room sure z c e);
+              long = entered-length p z (f .long) c;
               seen = more;
               after = f .after;
               parts = q .2;
@@ -180,5 +166,8 @@ module _ {C : Shape} {P : ℕ} {w W : List ℕ} {k j : ℕ} {s : List ℕ} {p : 
               told = f .told ∙ ap (freeAll C s) left-is;
             }
 
-        pub less-in : length (left false C P w (enteredPath p kid)) < length (left false C P w p)
-        less-in = rw (sound-in .one) (omega arith)
+        pub less-in : length (left false C P w (enteredPath p c)) < length (left false C P w p)
+        less-in = falls (step-down sure z c e)
+
+        pub room-in : (p .depth < 32) × (lastOf p .index < C .cap)
+        room-in = (step-room sure z c e, step-short sure z c e)

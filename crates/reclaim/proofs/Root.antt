@@ -110,6 +110,7 @@ start-freeing C P w n k d =
     record {
       header = d .header;
       valid = valid-path C P w (rooted n) (height C w n) (entered n ∷ []) refl (d .valid);
+      deep = omega arith;
       long = refl;
       seen = d .seen;
       after = d .after;

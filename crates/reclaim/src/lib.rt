@@ -13,17 +13,16 @@ use model::path::Position;
 use node::layout::Layout;
 use node_chain;
 use walk::turn;
+use walk::turn::Step;
 
 // Frees the first k nodes, in postorder, of the tree from root.
 pub fn free_first(l: Layout, s: &mut [u64], root: NodeNo, k: u64)
     requires { ⌜ Ready (shapeOf l) (l .pool) (now s) (root .0) k ⌝ }
     ensures { λ _. ⌜ now (s .exit) ≡ freeAll (shapeOf l) (now (s .entry)) (take k (rootNodes (shapeOf l) (now (s .entry)) (root .0))) ⌝ }
 {
+    let start = Position::entered(root);
     let mut path = Path {
-        positions: [Position {
-            node: root,
-            index: 0,
-        }; 32],
+        positions: [start; 32],
         depth: 1,
     };
     let mut freed: u64 = 0;
@@ -31,24 +30,18 @@ pub fn free_first(l: Layout, s: &mut [u64], root: NodeNo, k: u64)
         let depth = path.depth;
         let at = depth - 1;
         let top = path.positions[at];
-        let node = top.node;
-        let index = top.index;
-        let more = turn::has_child(l, &s[..], node, index);
-        if more {
-            let child = l.child(&s[..], node, index);
-            path.positions[at] = Position {
-                node,
-                index: index + 1,
-            };
-            path.positions[depth] = Position {
-                node: child,
-                index: 0,
-            };
-            path.depth = depth + 1;
-        } else {
-            node_chain::free_node(l, s, node);
-            freed += 1;
-            path.depth = at;
+        match turn::untested(l, &s[..], top) {
+            Step::Up => {
+                let node = top.node;
+                node_chain::free_node(l, s, node);
+                freed += 1;
+                path.depth = at;
+            }
+            Step::Down(child) => {
+                path.positions[at] = top.turned();
+                path.positions[depth] = Position::entered(child);
+                path.depth = depth + 1;
+            }
         }
     }
 }

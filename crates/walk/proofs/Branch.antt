@@ -7,18 +7,20 @@ use mathlib.Core.Logic.{_⊎_, inl, inr}
 use native.Mathlib.Omega.{arith}
 use lib.Dec.{ltb}
 use borrow.Author.Tests.{ltb-true, ltb-false}
-use Rattle.model.specs.Words.{Shape, pick, part, height, count, row, child}
+use Rattle.model.specs.Words.{Shape, pick, part, height, count, row, child, childPlace}
 use Rattle.model.specs.Tree.{Limit, nodeAt}
 use Rattle.model.specs.Reading.{Visit, Leave, passes, nextRow}
 use Rattle.model.specs.Paths.{trail, lastOf, above}
 use Rattle.model.specs.declared.id.NodeNo.{NodeNo}
 use Rattle.model.specs.declared.path.Path.{Path}
 use Rattle.model.proofs.Tests.{by-test}
+use Rattle.model.proofs.Frame.{Same}
 use Rattle.walk.specs.Left.{ValidPath, Moves}
 use Rattle.walk.specs.declared.turn.Step.{Step}
 use Rattle.walk.specs.declared.turn.Step.the-variants.{Up, Down}
 use Rattle.walk.specs.Turn.{hasChild, outOf, Turning, up, down, bad, entering, turning, stepping}
 use Rattle.walk.proofs.Moves.{leaf-move, end-move}
+use Rattle.walk.proofs.Tests.{branch}
 
 -- two constructors are never equal
 other : {A : Type 0} → _≡_ {A = ℕ} 0 1 → A
@@ -89,6 +91,19 @@ module _ (C : Shape) (w : List ℕ) (n i : ℕ) where
       (λ h. let q : Down (record { 0 = c }) ≡ Down (record { 0 = child C w n i }) = rw h at e in
       let r : _≡_ {A = NodeNo} (record { 0 = child C w n i }) (record { 0 = c }) = cc in (h, ap (λ (x : NodeNo). x .0) r))
       (λ h. let q : Down (record { 0 = c }) ≡ Up = rw h at e in other (cc))
+
+-- a node with the same words in w and v is turned at in the same way
+module _ (C : Shape) (w v : List ℕ) (n i : ℕ) (s : Same C w v n) (l : count C w n ≤ C .cap) where
+  same-has : hasChild C w n i ≡ hasChild C v n i
+  unfolding hasChild
+  same-has = rw (s 0 (omega arith), s 1 (omega arith))
+
+  pub step-same : stepping C w n i ≡ stepping C v n i
+  unfolding stepping
+  step-same =
+      by-test (hasChild C w n i)
+      (λ h. let e : child C w n i ≡ child C v n i = s (childPlace i) (omega (arith, l, branch C w n i h .1)) in rw (h, sym same-has ∙ h, e))
+      (λ h. rw (h, sym same-has ∙ h))
 
 -- a node with no more children is left
 pub move-out : (ends : Bool) (C : Shape) (P : ℕ) (w : List ℕ) (p : Path) (v : ValidPath C P w p) (z : 0 < p .depth) (q : Path)

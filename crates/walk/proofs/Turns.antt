@@ -18,10 +18,10 @@ use Rattle.model.specs.Paths.{noPosition, stack, lastOf, above, turned, entered
 use Rattle.model.specs.declared.path.Position.{Position}
 use Rattle.model.specs.declared.path.Path.{Path}
 use Rattle.model.proofs.Tests.{by-test}
-use Rattle.formed.proofs.Clean.{clean}
 use Rattle.node_test.specs.Test.{limitOf}
 use Rattle.node_test.specs.declared.Limit.{Limit}
 use Rattle.node_test.specs.declared.Limit.the-variants.{Open, Below}
+use Rattle.formed.specs.Visits.{clean}
 use Rattle.walk.specs.Left.{bound, left, Valid, ValidPath, Moves}
 use Rattle.walk.specs.declared.turn.Step.the-variants.{Up, Down}
 use Rattle.walk.specs.Turn.{hasChild, outOf, Placed, Turning, up, down, bad, turning, stepping}
@@ -210,51 +210,39 @@ module _ {C : Shape} {P : ℕ} {w : List ℕ} {p : Path} {nexts : List Limit} {f
 
 -- The turn that tests nothing ----------------------------------------------------------------------------
 
--- a path that has no unsound node left
-pub record Known (C : Shape) (P : ℕ) (w : List ℕ) (p : Path) : Type 0 where
+-- a path whose next visit is no unsound node
+pub record Sure (C : Shape) (P : ℕ) (w : List ℕ) (p : Path) : Type 0 where
   pub valid : ValidPath C P w p
   pub deep : p .depth ≤ 32
   pub long : length (p .positions) ≡ 32
-  pub all-clean : T (clean (left false C P w p))
+  pub no-bad : (m : ℕ) → Moves false C P w p (Bad m) (turnedPath p) → ⊥
 
-module _ {C : Shape} {P : ℕ} {w : List ℕ} {p : Path} (K : Known C P w p) (z : 0 < p .depth) where
+module _ {C : Shape} {P : ℕ} {w : List ℕ} {p : Path} (S : Sure C P w p) (z : 0 < p .depth) where
   pub at-top : Top C P w (p .positions) (p .depth) (height C w (lastOf p .node .0))
-  at-top = valid-top C P w p z (K .valid)
+  at-top = valid-top C P w p z (S .valid)
 
-  after : (v : Visit) (q : Path) → Moves false C P w p v q → q .depth ≤ 32 → length (q .positions) ≡ 32 → ((vs : List Visit) → T (clean (v ∷ vs)) → T (clean vs)) → Known C P w q
-  after v q m d l f = record { valid = m .valid; deep = d; long = l; all-clean = f (left false C P w q) (subst (λ (vs : List Visit). T (clean vs)) (m .one) (K .all-clean)) }
-
-  module _ (e : Up ≡ stepping C w (lastOf p .node .0) (lastOf p .index)) where
-    pub step-up : Moves false C P w p (Leave (lastOf p .node .0)) (popped p)
-    step-up = move-out false C P w p (K .valid) z (popped p) (step-out C w (lastOf p .node .0) (lastOf p .index) e) refl
-
-    pub known-up : Known C P w (popped p)
-    unfolding clean
-    known-up = after (Leave (lastOf p .node .0)) (popped p) step-up (omega (arith, K .deep)) (K .long) (λ vs t. t)
+  pub step-up : Up ≡ stepping C w (lastOf p .node .0) (lastOf p .index) → Moves false C P w p (Leave (lastOf p .node .0)) (popped p)
+  step-up e = move-out false C P w p (S .valid) z (popped p) (step-out C w (lastOf p .node .0) (lastOf p .index) e) refl
 
   -- a child that no visit calls unsound is entered
   module _ (e : hasChild C w (lastOf p .node .0) (lastOf p .index) ≡ true) where
-    pub below-32 : p .depth < 32
+    below-32 : p .depth < 32
     below-32 = omega (arith, at-top .deep, branch C w (lastOf p .node .0) (lastOf p .index) e .0)
 
-    no-bad : {A : Type 0} (m : ℕ) → Moves false C P w p (Bad m) (turnedPath p) → A
-    unfolding clean
-    no-bad m a = absurd (subst (λ (vs : List Visit). T (clean vs)) (a .one) (K .all-clean))
-
-    pub known-in : Moves false C P w p (Enter (child C w (lastOf p .node .0) (lastOf p .index))) (enteredPath p (child C w (lastOf p .node .0) (lastOf p .index)))
-    known-in =
+    sure-in : Moves false C P w p (Enter (child C w (lastOf p .node .0) (lastOf p .index))) (enteredPath p (child C w (lastOf p .node .0) (lastOf p .index)))
+    sure-in =
         let m = lastOf p .node .0 in
         let kid = child C w m (lastOf p .index) in
         let g = height C w m - 1 in
         let hi : height C w m ≡ suc g = omega (arith, branch C w m (lastOf p .index) e .0) in
         let inside = branch C w m (lastOf p .index) e .1 in
-        let t = turned-trail p z (K .long) (K .deep) in
+        let t = turned-trail p z (S .long) (S .deep) in
         by-test (ltb kid P)
         (λ u. let l = ltb-true kid P u in
         by-test (passes false C g (nodeAt C w kid) (row C w m (lastOf p .index)) (bound C w (turned (lastOf p) ∷ above p)))
-        (λ s. enter-move false C P w p (K .valid) z (enteredPath p kid) g hi inside l s (entered-trail p z (K .long) kid below-32))
-        (λ s. no-bad kid (bad-move false C P w p (K .valid) z (turnedPath p) g hi inside l s t)))
-        (λ u. no-bad m (far-move false C P w p (K .valid) z (turnedPath p) g hi inside (ltb-false kid P u) t))
+        (λ s. enter-move false C P w p (S .valid) z (enteredPath p kid) g hi inside l s (entered-trail p z (S .long) kid below-32))
+        (λ s. absurd (S .no-bad kid (bad-move false C P w p (S .valid) z (turnedPath p) g hi inside l s t))))
+        (λ u. absurd (S .no-bad m (far-move false C P w p (S .valid) z (turnedPath p) g hi inside (ltb-false kid P u) t)))
 
   module _ (c : ℕ) (e : Down (record { 0 = c }) ≡ stepping C w (lastOf p .node .0) (lastOf p .index)) where
     pub step-room : p .depth < 32
@@ -264,8 +252,28 @@ module _ {C : Shape} {P : ℕ} {w : List ℕ} {p : Path} (K : Known C P w p) (z 
     step-short = let s = step-in C w (lastOf p .node .0) (lastOf p .index) c e in omega (arith, branch C w (lastOf p .node .0) (lastOf p .index) (s .0) .1, at-top .narrow)
 
     pub step-down : Moves false C P w p (Enter c) (enteredPath p c)
-    step-down = let s = step-in C w (lastOf p .node .0) (lastOf p .index) c e in subst (λ (x : ℕ). Moves false C P w p (Enter x) (enteredPath p x)) (s .1) (known-in (s .0))
+    step-down = let s = step-in C w (lastOf p .node .0) (lastOf p .index) c e in subst (λ (x : ℕ). Moves false C P w p (Enter x) (enteredPath p x)) (s .1) (sure-in (s .0))
 
-    pub known-down : Known C P w (enteredPath p c)
+-- a path that has no unsound node left
+pub record Known (C : Shape) (P : ℕ) (w : List ℕ) (p : Path) : Type 0 where
+  pub valid : ValidPath C P w p
+  pub deep : p .depth ≤ 32
+  pub long : length (p .positions) ≡ 32
+  pub all-clean : T (clean (left false C P w p))
+
+module _ {C : Shape} {P : ℕ} {w : List ℕ} {p : Path} (K : Known C P w p) where
+  pub sure : Sure C P w p
+  unfolding clean
+  sure = record { valid = K .valid; deep = K .deep; long = K .long; no-bad = λ m a. absurd (subst (λ (vs : List Visit). T (clean vs)) (a .one) (K .all-clean)) }
+
+  after : (v : Visit) (q : Path) → Moves false C P w p v q → q .depth ≤ 32 → length (q .positions) ≡ 32 → ((vs : List Visit) → T (clean (v ∷ vs)) → T (clean vs)) → Known C P w q
+  after v q m d l f = record { valid = m .valid; deep = d; long = l; all-clean = f (left false C P w q) (subst (λ (vs : List Visit). T (clean vs)) (m .one) (K .all-clean)) }
+
+  module _ (z : 0 < p .depth) where
+    pub known-up : Up ≡ stepping C w (lastOf p .node .0) (lastOf p .index) → Known C P w (popped p)
     unfolding clean
-    known-down = after (Enter c) (enteredPath p c) step-down (omega (arith, step-room)) (entered-length p z (K .long) c) (λ vs t. t)
+    known-up e = after (Leave (lastOf p .node .0)) (popped p) (step-up sure z e) (omega (arith, K .deep)) (K .long) (λ vs t. t)
+
+    pub known-down : (c : ℕ) → Down (record { 0 = c }) ≡ stepping C w (lastOf p .node .0) (lastOf p .index) → Known C P w (enteredPath p c)
+    unfolding clean
+    known-down c e = after (Enter c) (enteredPath p c) (step-down sure z c e) (omega (arith, step-room sure z c e)) (entered-length p z (K .long) c) (λ vs t. t)

@@ -8,7 +8,7 @@ use Rattle.model.specs.Words.{freeAll}
 use Rattle.model.specs.Reading.{rootNodes}
 use Rattle.model.specs.Paths.{lastOf}
 use Rattle.walk.specs.Left.{left}
-use Rattle.reclaim.proofs.Freeing.{Freeable, enough, some-left, last-top, same-last, same-child, goes-out, less-out, inside, deep, same-kid, goes-in, less-in}
+use Rattle.reclaim.proofs.Freeing.{Freeable, enough, some-left, last-in, same-step, goes-out, less-out, goes-in, less-in, room-in}
 use Rattle.reclaim.proofs.Root.{start-freeing}
 use Rattle.reclaim.proofs.free_first.Statement.{statement}
 use Rattle.reclaim.proofs.free_first.Tie as tie
@@ -20,8 +20,13 @@ Inv-loop l s₀ k path₀ freed₀ s path freed =
 abbrev μ-loop : tie.MeasureT-loop
 μ-loop l s₀ k path₀ freed₀ s path freed = length (left false (shapeOf l) (l .pool) s₀ path)
 
+entered-requires : tie.Need-entered-requires Inv-loop μ-loop
+entered-requires c κs =
+    search needs
+
 loop-holds : tie.Need-loop-holds Inv-loop μ-loop
-loop-holds c = start-freeing (shapeOf (c .before .args .l)) (c .before .args .l .pool) (c .before .args .s .now) (c .before .args .root .0) (c .before .args .k) (c .before .pre)
+loop-holds c =
+    rw (c .entered .ensures) (start-freeing (shapeOf (c .before .before .args .l)) (c .before .before .args .l .pool) (c .before .before .args .s .now) (c .before .before .args .root .0) (c .before .before .args .k) (c .before .before .pre))
 
 sub-at : tie.Need-sub-at Inv-loop μ-loop
 sub-at c =
@@ -35,124 +40,128 @@ mul-top c =
     let f = c .before .loop .inv in
     let l = c .loop-test .taken in
     let z = some-left f l in
-    omega (arith, last-top f z .deep)
+    omega (arith, f .deep)
 
 element-copy-out-top : tie.Need-element-copy-out-top Inv-loop μ-loop
 element-copy-out-top c =
     let f = c .before .loop .inv in
     let l = c .loop-test .taken in
     let z = some-left f l in
-    omega (arith, last-top f z .deep, f .long)
+    omega (arith, f .deep, f .long)
 
-has-child-requires : tie.Need-has-child-requires Inv-loop μ-loop
-has-child-requires c κs =
-    let f = c .before .before .before .before .loop .inv in
-    let l = c .before .before .before .loop-test .taken in
+untested-requires : tie.Need-untested-requires Inv-loop μ-loop
+untested-requires c κs =
+    let f = c .before .before .before .loop .inv in
+    let l = c .before .before .loop-test .taken in
     let z = some-left f l in
-    (f .header, last-top f z .inside)
+    (f .header, last-in f z)
 
-child-requires : tie.Need-child-requires Inv-loop μ-loop
-child-requires c κs =
-    let f = c .before .before .before .before .before .before .before .loop .inv in
-    let l = c .before .before .before .before .before .before .loop-test .taken in
-    let z = some-left f l in
-    let e = sym (same-child f z) ∙ sym (c .before .before .has-child .ensures) ∙ c .before .if1 .taken in
-    (f .header, (last-top f z .inside, omega (arith, inside f z l e, last-top f z .narrow)))
+enum-told : tie.Need-enum-told Inv-loop μ-loop
+enum-told c =
+    search needs
 
-add-t25 : tie.Need-add-t25 Inv-loop μ-loop
-add-t25 c =
+free-node-requires : tie.Need-free-node-requires Inv-loop μ-loop
+free-node-requires c κs =
     let f = c .before .before .before .before .before .before .before .before .loop .inv in
     let l = c .before .before .before .before .before .before .before .loop-test .taken in
     let z = some-left f l in
-    let e = sym (same-child f z) ∙ sym (c .before .before .before .has-child .ensures) ∙ c .before .before .if1 .taken in
-    omega (arith, inside f z l e, last-top f z .narrow, f .header .cap-high)
+    (f .header, (last-in f z .0, omega (arith, f .room, f .many)))
+
+add-freed : tie.Need-add-freed Inv-loop μ-loop
+add-freed c =
+    search needs
+
+loop-less : tie.Need-loop-less Inv-loop μ-loop
+loop-less c =
+    let f = c .before .before .before .before .before .before .before .before .before .before .before .loop .inv in
+    let l = c .before .before .before .before .before .before .before .before .before .before .loop-test .taken in
+    let z = some-left f l in
+    let e = same-step f z _ (sym (c .before .before .before .before .before .enum-told .given .1) ∙ c .before .before .before .before .before .before .before .untested .ensures) in
+    less-out f z l e
+
+loop-again : tie.Need-loop-again Inv-loop μ-loop
+loop-again c =
+    let f = c .before .before .before .before .before .before .before .before .before .before .before .loop .inv in
+    let l = c .before .before .before .before .before .before .before .before .before .before .loop-test .taken in
+    let z = some-left f l in
+    let e = same-step f z _ (sym (c .before .before .before .before .before .enum-told .given .1) ∙ c .before .before .before .before .before .before .before .untested .ensures) in
+    rw (c .before .before .free-node .ensures) (goes-out f z l e)
+
+enum-known-child : tie.Need-enum-known-child Inv-loop μ-loop
+enum-known-child c =
+    search needs
+
+turned-requires : tie.Need-turned-requires Inv-loop μ-loop
+turned-requires c κs =
+    let f = c .before .before .before .before .before .before .before .loop .inv in
+    let l = c .before .before .before .before .before .before .loop-test .taken in
+    let z = some-left f l in
+    let e = same-step f z _ (sym (c .before .child .given .1) ∙ c .before .before .before .untested .ensures) in
+    omega (arith, room-in f z l _ e .1, f .header .cap-high)
 
 mul-path : tie.Need-mul-path Inv-loop μ-loop
 mul-path c =
     let f = c .before .before .before .before .before .before .before .before .loop .inv in
     let l = c .before .before .before .before .before .before .before .loop-test .taken in
     let z = some-left f l in
-    omega (arith, last-top f z .deep, f .long)
+    omega (arith, f .deep, f .long)
 
 element-set-from-path : tie.Need-element-set-from-path Inv-loop μ-loop
 element-set-from-path c =
     let f = c .before .before .before .before .before .before .before .before .loop .inv in
     let l = c .before .before .before .before .before .before .before .loop-test .taken in
     let z = some-left f l in
-    omega (arith, last-top f z .deep, f .long)
+    omega (arith, f .deep, f .long)
 
-mul-t27 : tie.Need-mul-t27 Inv-loop μ-loop
-mul-t27 c =
-    let f = c .before .before .before .before .before .before .before .before .loop .inv in
-    let l = c .before .before .before .before .before .before .before .loop-test .taken in
-    let z = some-left f l in
-    omega (arith, last-top f z .deep, f .long)
+entered-requires-2 : tie.Need-entered-requires-2 Inv-loop μ-loop
+entered-requires-2 c κs =
+    search needs
 
-add-path : tie.Need-add-path Inv-loop μ-loop
-add-path c =
-    let f = c .before .before .before .before .before .before .before .before .loop .inv in
-    let l = c .before .before .before .before .before .before .before .loop-test .taken in
+mul-t26 : tie.Need-mul-t26 Inv-loop μ-loop
+mul-t26 c =
+    let f = c .before .before .before .before .before .before .before .before .before .loop .inv in
+    let l = c .before .before .before .before .before .before .before .before .loop-test .taken in
     let z = some-left f l in
-    omega (arith, last-top f z .deep, f .long)
+    omega (arith, f .deep, f .long)
 
 element-set-from-path-2 : tie.Need-element-set-from-path-2 Inv-loop μ-loop
 element-set-from-path-2 c =
-    let f = c .before .before .before .before .before .before .before .before .loop .inv in
-    let l = c .before .before .before .before .before .before .before .loop-test .taken in
+    let f = c .before .before .before .before .before .before .before .before .before .loop .inv in
+    let l = c .before .before .before .before .before .before .before .before .loop-test .taken in
     let z = some-left f l in
-    let e = sym (same-child f z) ∙ sym (c .before .before .before .has-child .ensures) ∙ c .before .before .if1 .taken in
-    omega (arith, deep f z l e, f .long)
+    let e = same-step f z _ (sym (c .before .before .before .child .given .1) ∙ c .before .before .before .before .before .untested .ensures) in
+    omega (arith, room-in f z l _ e .0, f .long)
 
-loop-less : tie.Need-loop-less Inv-loop μ-loop
-loop-less c =
-    let f = c .before .before .before .before .before .before .before .before .loop .inv in
-    let l = c .before .before .before .before .before .before .before .loop-test .taken in
+add-path : tie.Need-add-path Inv-loop μ-loop
+add-path c =
+    let f = c .before .before .before .before .before .before .before .before .before .loop .inv in
+    let l = c .before .before .before .before .before .before .before .before .loop-test .taken in
     let z = some-left f l in
-    let e = sym (same-child f z) ∙ sym (c .before .before .before .has-child .ensures) ∙ c .before .before .if1 .taken in
-    rw (c .child .ensures, same-kid f z l e) (less-in f z l e)
-
-loop-again : tie.Need-loop-again Inv-loop μ-loop
-loop-again c =
-    let f = c .before .before .before .before .before .before .before .before .loop .inv in
-    let l = c .before .before .before .before .before .before .before .loop-test .taken in
-    let z = some-left f l in
-    let e = sym (same-child f z) ∙ sym (c .before .before .before .has-child .ensures) ∙ c .before .before .if1 .taken in
-    rw (c .child .ensures, same-kid f z l e) (goes-in f z l e)
-
-free-node-requires : tie.Need-free-node-requires Inv-loop μ-loop
-free-node-requires c κs =
-    let f = c .before .before .before .before .before .before .before .loop .inv in
-    let l = c .before .before .before .before .before .before .loop-test .taken in
-    let z = some-left f l in
-    (f .header, (last-top f z .inside, omega (arith, f .room, f .many)))
-
-add-freed : tie.Need-add-freed Inv-loop μ-loop
-add-freed c =
-    search needs
+    omega (arith, f .deep, f .long)
 
 loop-less-2 : tie.Need-loop-less-2 Inv-loop μ-loop
 loop-less-2 c =
-    let f = c .before .before .before .before .before .before .before .before .before .before .loop .inv in
-    let l = c .before .before .before .before .before .before .before .before .before .loop-test .taken in
+    let f = c .before .before .before .before .before .before .before .before .before .loop .inv in
+    let l = c .before .before .before .before .before .before .before .before .loop-test .taken in
     let z = some-left f l in
-    let e = sym (same-child f z) ∙ sym (c .before .before .before .before .before .has-child .ensures) ∙ c .before .before .before .before .if1 .left in
-    less-out f z l e
+    let e = same-step f z _ (sym (c .before .before .before .child .given .1) ∙ c .before .before .before .before .before .untested .ensures) in
+    rw (c .entered2 .ensures, c .before .turned .ensures) (less-in f z l _ e)
 
 loop-again-2 : tie.Need-loop-again-2 Inv-loop μ-loop
 loop-again-2 c =
-    let f = c .before .before .before .before .before .before .before .before .before .before .loop .inv in
-    let l = c .before .before .before .before .before .before .before .before .before .loop-test .taken in
+    let f = c .before .before .before .before .before .before .before .before .before .loop .inv in
+    let l = c .before .before .before .before .before .before .before .before .loop-test .taken in
     let z = some-left f l in
-    let e = sym (same-child f z) ∙ sym (c .before .before .before .before .before .has-child .ensures) ∙ c .before .before .before .before .if1 .left in
-    rw (c .before .before .free-node .ensures) (goes-out f z l e)
+    let e = same-step f z _ (sym (c .before .before .before .child .given .1) ∙ c .before .before .before .before .before .untested .ensures) in
+    rw (c .entered2 .ensures, c .before .turned .ensures) (goes-in f z l _ e)
 
 same-length : tie.Need-same-length Inv-loop μ-loop
 same-length c =
-    c .before .loop .inv .header .long ∙ sym (c .before .before .before .pre .header .long)
+    c .before .loop .inv .header .long ∙ sym (c .before .before .before .before .pre .header .long)
 
 returns : tie.Need-returns Inv-loop μ-loop
 returns c =
-    enough (c .before .loop .inv) (c .loop-test .left)
+    rw (c .before .before .entered .ensures) at (enough (c .before .loop .inv) (c .loop-test .left))
 
 pub free-first-spec : {M : Type 1} → statement M
 free-first-spec =
@@ -160,22 +169,25 @@ free-first-spec =
     (tie.spec
     Inv-loop
     μ-loop
+    entered-requires
     loop-holds
     sub-at
     mul-top
     element-copy-out-top
-    has-child-requires
-    child-requires
-    add-t25
-    mul-path
-    element-set-from-path
-    mul-t27
-    element-set-from-path-2
-    add-path
-    loop-less
-    loop-again
+    untested-requires
+    enum-told
     free-node-requires
     add-freed
+    loop-less
+    loop-again
+    enum-known-child
+    turned-requires
+    mul-path
+    element-set-from-path
+    entered-requires-2
+    mul-t26
+    element-set-from-path-2
+    add-path
     loop-less-2
     loop-again-2
     same-length
