@@ -6,3 +6,4 @@ pub mod Tests
 pub mod Branch
 pub mod InPlace
 pub mod Turns
+pub mod Trace
