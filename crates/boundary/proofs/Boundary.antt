@@ -23,10 +23,10 @@ use Rattle.cut.proofs.Rests.{withPairs}
 use Rattle.walk.specs.Left.{bound}
 use Rattle.formed.proofs.Clean.{leaf-rises}
 use Rattle.model.specs.Prune.{entryEnd}
-use Rattle.prefix_leaf.specs.Behind.{Passed, limitAt, Done, Above, Behind, Last}
-use Rattle.prefix.proofs.Traces.{tall, behind-out}
-use Rattle.edge.specs.Edge.{Meets, at, firstPairs, firstNodes, Stays, trimsUp, goneUp, Cutting}
-use Rattle.edge.proofs.Goes.{gone-cons, cut-append, went-append, trims-append, pairs-split, all-went, pairs-go, goes}
+use Rattle.boundary.specs.Behind.{Passed, limitAt, Done, Above, Behind, Last}
+use Rattle.boundary.proofs.Behind.{tall, behind-out}
+use Rattle.boundary.specs.Edge.{Meets, at, firstPairs, firstNodes, wentOf, Stays, trimsUp, Cutting}
+use Rattle.boundary.proofs.Goes.{gone-cons, cut-append, went-append, trims-append, pairs-split, all-went, pairs-go, goes}
 
 module _ (C : Shape) (P : ℕ) (w : List ℕ) where
   -- the rows of a node that passed its test
@@ -88,8 +88,9 @@ module _ (C : Shape) (P : ℕ) (w : List ℕ) where
     late (suc h) x r q = let z = le-ltb r e (omega arith) in (rw z, rw z, rw z)
 
     -- the node at which the boundary ends
-    pub stays-here : (h n k : ℕ) → k < count C w n → start C w n < e → row C w n k ≡ e → cutPairs e (cut h e) (firstPairs C w h n k) ≡ [] → Stays C w e h n ((n, k) ∷ []) (firstNodes C w h n k)
-    stays-here h n k l b q z =
+    pub stays-here : (h n k : ℕ) → k < count C w n → start C w n < e → row C w n k ≡ e → cutPairs e (cut h e) (firstPairs C w h n k) ≡ [] → height C w n ≡ h → Stays C w e h n ((n, k) ∷ [])
+    unfolding wentOf
+    stays-here h n k l b q z hi =
         let t = late h (level C w h (child C w n k)) (row C w n k) q in
         record {
           first = _;
@@ -97,19 +98,19 @@ module _ (C : Shape) (P : ℕ) (w : List ℕ) where
           left = cut-is h n k l z (level C w h (child C w n k)) (t .0);
           below = b;
           trimmed = trims-is h n k l z (level C w h (child C w n k)) (t .0) b ∙ ap (λ (ts : List (ℕ × ℕ)). (n, k) ∷ ts) (t .1);
-          gone = went-is h n k l z (level C w h (child C w n k)) (t .0) ∙ rw (t .2) (append-nil (firstNodes C w h n k));
+          gone = went-is h n k l z (level C w h (child C w n k)) (t .0) ∙ rw (t .2, hi);
         }
 
     -- what is left of a node that stays
-    stay-cut : (h n : ℕ) (T₀ : List (ℕ × ℕ)) (W : List ℕ) (s : Stays C w e h n T₀ W) → (y : Level (suc h)) × (cut (suc h) e (level C w (suc h) n) (start C w n) ≡ stays y) × (went (suc h) e (level C w (suc h) n) (start C w n) ≡ W)
+    stay-cut : (h n : ℕ) (T₀ : List (ℕ × ℕ)) (s : Stays C w e h n T₀) → (y : Level (suc h)) × (cut (suc h) e (level C w (suc h) n) (start C w n) ≡ stays y) × (went (suc h) e (level C w (suc h) n) (start C w n) ≡ wentOf C w T₀)
     unfolding cut trim went ifGone level
-    stay-cut h n T₀ W s = (withPairs e (level C w (suc h) n) (s .first ∷ s .others), rw (lt-ltb (start C w n) e (s .below), s .left), rw (lt-ltb (start C w n) e (s .below), s .left, s .gone) (append-nil W))
+    stay-cut h n T₀ s = (withPairs e (level C w (suc h) n) (s .first ∷ s .others), rw (lt-ltb (start C w n) e (s .below), s .left), rw (lt-ltb (start C w n) e (s .below), s .left, s .gone) (append-nil (wentOf C w T₀)))
 
     -- a node whose child stays
-    pub stays-up : (root h n : ℕ) (q : Position) (up : List Position) (T₀ : List (ℕ × ℕ)) (W : List ℕ) → Stays C w e h n T₀ W → Above C P w root h n (q ∷ up)
-        → Stays C w e (suc h) (q .node .0) ((q .node .0, q .index - 1) ∷ T₀) (firstNodes C w (suc h) (q .node .0) (q .index - 1) ++ W)
-    unfolding Above Done
-    stays-up root h n q up T₀ W s a =
+    pub stays-up : (root h n : ℕ) (q : Position) (up : List Position) (T₀ : List (ℕ × ℕ)) → Stays C w e h n T₀ → Above C P w root h n (q ∷ up)
+        → Stays C w e (suc h) (q .node .0) ((q .node .0, q .index - 1) ∷ T₀)
+    unfolding Above Done wentOf
+    stays-up root h n q up T₀ s a =
         let m = q .node .0 in
         let k = q .index - 1 in
         let l : k < count C w m = omega (arith, a .some, a .within) in
@@ -118,10 +119,10 @@ module _ (C : Shape) (P : ℕ) (w : List ℕ) where
         let z = pairs-go C P e (suc h) (goes C P e (suc h)) (row C w m k) (omega arith) (firstPairs C w (suc h) m k) d in
         let r = rows-of (suc h) m up (a .passed) in
         let below : start C w m < e = by-test (ltb 0 k) (λ t. omega (arith, r .first, r .rise 0 k (ltb-true 0 k t) l)) (λ t. let y : k ≡ 0 = omega (arith, ltb-false 0 k t) in omega (arith, r .first, ap (row C w m) y)) in
-        let st = stay-cut h n T₀ W s in
-        let here : (j i : ℕ) → n ≡ j → start C w n ≡ i → (cut (suc h) e (level C w (suc h) j) i ≡ stays (st .0)) × (trims (suc h) e (level C w (suc h) j) i ≡ T₀) × (went (suc h) e (level C w (suc h) j) i ≡ W) =
-        λ j i x y. subst (λ (v : ℕ). (cut (suc h) e (level C w (suc h) v) i ≡ stays (st .0)) × (trims (suc h) e (level C w (suc h) v) i ≡ T₀) × (went (suc h) e (level C w (suc h) v) i ≡ W)) x
-        (subst (λ (v : ℕ). (cut (suc h) e (level C w (suc h) n) v ≡ stays (st .0)) × (trims (suc h) e (level C w (suc h) n) v ≡ T₀) × (went (suc h) e (level C w (suc h) n) v ≡ W)) y (st .1, s .trimmed, st .2)) in
+        let st = stay-cut h n T₀ s in
+        let here : (j i : ℕ) → n ≡ j → start C w n ≡ i → (cut (suc h) e (level C w (suc h) j) i ≡ stays (st .0)) × (trims (suc h) e (level C w (suc h) j) i ≡ T₀) × (went (suc h) e (level C w (suc h) j) i ≡ wentOf C w T₀) =
+        λ j i x y. subst (λ (v : ℕ). (cut (suc h) e (level C w (suc h) v) i ≡ stays (st .0)) × (trims (suc h) e (level C w (suc h) v) i ≡ T₀) × (went (suc h) e (level C w (suc h) v) i ≡ wentOf C w T₀)) x
+        (subst (λ (v : ℕ). (cut (suc h) e (level C w (suc h) n) v ≡ stays (st .0)) × (trims (suc h) e (level C w (suc h) n) v ≡ T₀) × (went (suc h) e (level C w (suc h) n) v ≡ wentOf C w T₀)) y (st .1, s .trimmed, st .2)) in
         let c = here (child C w m k) (row C w m k) (a .leads) (a .begins) in
         record {
           first = _;
@@ -129,17 +130,17 @@ module _ (C : Shape) (P : ℕ) (w : List ℕ) where
           left = cut-is (suc h) m k l z (st .0) (c .0);
           below = below;
           trimmed = trims-is (suc h) m k l z (st .0) (c .0) below ∙ ap (λ (ts : List (ℕ × ℕ)). (m, k) ∷ ts) (c .1);
-          gone = went-is (suc h) m k l z (st .0) (c .0) ∙ ap (λ (ns : List ℕ). firstNodes C w (suc h) m k ++ ns) (c .2);
+          gone = went-is (suc h) m k l z (st .0) (c .0) ∙ ap (λ (ns : List ℕ). firstNodes C w (suc h) m k ++ ns) (c .2) ∙ ap (λ (j : ℕ). firstNodes C w j m k ++ wentOf C w T₀) (sym (tall C P w (suc h) m up (a .passed)));
         }
 
     -- up to the root
-    pub stays-root : (root h n : ℕ) (up : List Position) (T₀ : List (ℕ × ℕ)) (W : List ℕ) → Passed C P w h n up → Stays C w e h n T₀ W → Above C P w root h n up
-        → Stays C w e (height C w root) root (trimsUp C w up T₀) (goneUp C w h up W)
-    unfolding Above trimsUp goneUp
-    stays-root root h n [] T₀ W p s a =
-        subst (λ (m : ℕ). Stays C w e (height C w m) m T₀ W) a (subst (λ (j : ℕ). Stays C w e j n T₀ W) (sym (tall C P w h n [] p)) s)
-    stays-root root h n (q ∷ up) T₀ W p s a =
-        stays-root root (suc h) (q .node .0) up ((q .node .0, q .index - 1) ∷ T₀) (firstNodes C w (suc h) (q .node .0) (q .index - 1) ++ W) (a .passed) (stays-up root h n q up T₀ W s a) (a .above)
+    pub stays-root : (root h n : ℕ) (up : List Position) (T₀ : List (ℕ × ℕ)) → Passed C P w h n up → Stays C w e h n T₀ → Above C P w root h n up
+        → Stays C w e (height C w root) root (trimsUp up T₀)
+    unfolding Above trimsUp
+    stays-root root h n [] T₀ p s a =
+        subst (λ (m : ℕ). Stays C w e (height C w m) m T₀) a (subst (λ (j : ℕ). Stays C w e j n T₀) (sym (tall C P w h n [] p)) s)
+    stays-root root h n (q ∷ up) T₀ p s a =
+        stays-root root (suc h) (q .node .0) up ((q .node .0, q .index - 1) ∷ T₀) (a .passed) (stays-up root h n q up T₀ s a) (a .above)
 
     -- Climbing from the leaf of the last entry named ---------------------------------------------------------
     ends-at : (b : Limit) (x l : ℕ) → T (endSound 0 b x l) → Meets b x

@@ -1,0 +1,4 @@
+pub mod Behind
+pub mod Goes
+pub mod Boundary
+pub mod Went

@@ -1,0 +1,4 @@
+pub mod Behind
+pub mod Edge
+pub mod Spine
+pub mod Trims
