@@ -74,6 +74,11 @@ module _ (C : Shape) (P : ℕ) (w : List ℕ) where
   went-in up n i c =
       went-up up ((n, i) ∷ (c, 0) ∷ []) ∙ ap (λ (l : List ℕ). wentOf C w (trimsUp up []) ++ (firstNodes C w (height C w n) n i ++ (l ++ []))) (first-none (height C w c) c) ∙ sym (went-up up ((n, i) ∷ []))
 
+  -- the entries of a leaf lead to no nodes
+  pub went-leaf : (up : List Position) (n i k : ℕ) → height C w n ≡ 0 → wentOf C w (trimsUp up ((n, i) ∷ [])) ≡ wentOf C w (trimsUp up ((n, k) ∷ []))
+  unfolding wentOf
+  went-leaf up n i k z = went-up up ((n, i) ∷ []) ∙ ap (λ (l : List ℕ). wentOf C w (trimsUp up []) ++ (l ++ [])) (first-leaf (height C w n) n 0 i z ∙ sym (first-leaf (height C w n) n 0 k z)) ∙ sym (went-up up ((n, k) ∷ []))
+
   -- a node is left, with what lies below it: it is the last that goes
   pub went-out : (root h n k : ℕ) (q : Position) (up : List Position) → Passed C P w h n (q ∷ up) → Above C P w root h n (q ∷ up) → (h ≡ 0) ⊎ (k ≡ count C w n)
       → wentOf C w (trimsUp up ((q .node .0, q .index) ∷ [])) ≡ wentOf C w (trimsUp (q ∷ up) ((n, k) ∷ [])) ++ (n ∷ [])

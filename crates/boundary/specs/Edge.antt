@@ -12,9 +12,10 @@ use Rattle.model.specs.Paths.{noPosition, lastOf, above}
 use Rattle.model.specs.declared.path.Position.{Position}
 use Rattle.model.specs.declared.path.Path.{Path}
 use Rattle.formed.specs.Visits.{lefts}
+use Rattle.tally.specs.Tally.{few}
 use Rattle.walk.specs.Left.{ValidPath}
 use Rattle.walk.specs.Trace.{Walked}
-use Rattle.boundary.specs.Behind.{limitAt, Behind}
+use Rattle.boundary.specs.Behind.{limitAt, Behind, BehindPath, Last}
 
 -- the end of the last entry that goes is what is next
 unfoldable pub Meets : Limit → ℕ → Type 0
@@ -64,7 +65,20 @@ trimsUp (q ∷ up) T = trimsUp up ((q .node .0, q .index - 1) ∷ T)
 abbrev pub trimsOn : Path → List (ℕ × ℕ)
 trimsOn p = trimsUp (above p) ((lastOf p .node .0, lastOf p .index) ∷ [])
 
--- a path to a node of which entries go, and the visits that led to it: they left the nodes that go
+-- a path to the leaf of the last entry named, of which u entries are named, and the visits that led to it: they left the
+-- nodes that go, k of them
+pub record Ended (C : Shape) (P : ℕ) (w : List ℕ) (e root : ℕ) (p : Path) (u k : ℕ) : Type 0 where
+  pub deep : 0 < p .depth
+  pub long : length (p .positions) ≡ 32
+  pub valid : ValidPath C P w p
+  pub behind : BehindPath C P w root p
+  pub last : Last C w (lastOf p .node .0) u e
+  pub seen : List Visit
+  pub walked : Walked C P w root seen p
+  pub went : lefts seen ≡ wentOf C w (trimsOn p)
+  pub counted : k ≡ few (length (lefts seen))
+
+-- the same of a path to a node of which entries go
 pub record Climbed (C : Shape) (P : ℕ) (w : List ℕ) (e root : ℕ) (p : Path) : Type 0 where
   pub deep : 0 < p .depth
   pub long : length (p .positions) ≡ 32

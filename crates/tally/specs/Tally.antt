@@ -12,6 +12,10 @@ use Rattle.tally.specs.declared.Survey.the-variants.{Unsound, Counted}
 unfoldable pub more : ℕ → ℕ → ℕ
 more k some = pick (ltb k (2 ^ 32)) (k + some) k
 
+-- n counted one by one
+unfoldable pub few : ℕ → ℕ
+few n = pick (ltb n (2 ^ 32)) n (2 ^ 32)
+
 abbrev pub noCounts : Counts
 noCounts = record { nodes = 0; leaves = 0; entries = 0 }
 

@@ -25,7 +25,7 @@ pub enum Survey {
 }
 
 // k and some more, up to what is told apart.
-fn add(k: u64, some: u64) -> u64
+pub fn add(k: u64, some: u64) -> u64
     requires { ⌜ some ≤ 4094 ⌝ }
     ensures { λ r. ⌜ r ≡ more k some ⌝ }
 {
