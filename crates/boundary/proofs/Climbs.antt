@@ -33,7 +33,7 @@ use Rattle.boundary.proofs.Behind.{tall, at-last}
 use Rattle.boundary.proofs.Goes.{all-went}
 use Rattle.boundary.proofs.Boundary.{stays-here, stays-root, cutting-up, cutting-leaf}
 use Rattle.boundary.proofs.Went.{went-out, went-leaf, went-first}
-use Rattle.boundary.proofs.Joined.{edge-spine}
+use Rattle.boundary.proofs.Joined.{stack-length, top-height, edge-spine}
 use Rattle.boundary.proofs.Distinct.{firstsOf, spine-each, spine-inside}
 
 -- the path with the entries named in its leaf
@@ -94,6 +94,19 @@ module _ (C : Shape) (P : ℕ) (w : List ℕ) (e root : ℕ) where
           held = λ m. (d .walked .held m ∙ ap (λ (st : List Position). occ m (onPath st) + occ m (lefts (d .seen))) (stack-pop (p .positions) (p .depth) (d .deep)) ∙ ap (λ (st : List Position). occ m (onPath st) + occ m (lefts (d .seen))) (sym trail-is));
         }
 
+    -- the same nodes go
+    pub went-marked : lefts (d .seen) ≡ wentOf C w (trimsOn (marked p u))
+    went-marked =
+        d .went ∙ went-leaf C P w (above p) n (lastOf p .index) u (d .last .leaf) ∙ ap (λ (st : List Position). wentOf C w (trimsUp st ((n, u) ∷ []))) (sym above-is)
+        ∙ ap (λ (q : Position). wentOf C w (trimsUp (above (marked p u)) ((q .node .0, q .index) ∷ []))) (sym last-is)
+
+    -- the path goes down to a leaf
+    pub ended-high : height C w root + 1 ≡ p .depth
+    unfolding Behind
+    ended-high =
+        let b = at-last C P w root p (d .deep) (d .behind) in
+        omega (arith, top-height C P w root (height C w n) n (above p) (b .passed) (b .above), stack-length (p .positions) (p .depth - 1), d .last .leaf, d .deep)
+
     pub start-climb : Climbed C P w e root (marked p u)
     start-climb =
         let b : Behind C P w root 0 (at n (lastOf p .index) ∷ above p) = subst (λ (h : ℕ). Behind C P w root h (lastOf p ∷ above p)) (d .last .leaf) (at-last C P w root p (d .deep) (d .behind)) in
@@ -105,7 +118,7 @@ module _ (C : Shape) (P : ℕ) (w : List ℕ) (e root : ℕ) where
           cutting = subst (λ (q : Position). Cutting C w P e root (height C w (q .node .0)) (q .node .0) (q .index) (above (marked p u))) (sym last-is) (subst (λ (st : List Position). Cutting C w P e root (height C w n) n u st) (sym above-is) c);
           seen = d .seen;
           walked = walked-is;
-          went = d .went ∙ went-leaf C P w (above p) n (lastOf p .index) u (d .last .leaf) ∙ ap (λ (st : List Position). wentOf C w (trimsUp st ((n, u) ∷ []))) (sym above-is) ∙ ap (λ (q : Position). wentOf C w (trimsUp (above (marked p u)) ((q .node .0, q .index) ∷ []))) (sym last-is);
+          went = went-marked;
         }
 
   module _ (p : Path) (c : Climbed C P w e root p) where

@@ -93,16 +93,20 @@ pub record Climbed (C : Shape) (P : ℕ) (w : List ℕ) (e root : ℕ) (p : Path
 unfoldable pub goesAt : ℕ → ℕ → ℕ → ℕ
 goesAt d i k = pick (ltb (i + 1) d) (k - 1) (pick (ltb i d) k 0)
 
--- path q has the nodes of path p, each with how many of its entries go
-pub record Settled (p q : Path) : Type 0 where
+-- on the first d levels path q has the nodes of path p, each with how many of its entries go
+pub record Settled (p q : Path) (d : ℕ) : Type 0 where
   pub depth-is : q .depth ≡ p .depth
   pub long : length (q .positions) ≡ 32
-  pub each : (i : ℕ) → i < 32 → getD (q .positions) i noPosition ≡ record { node = getD (p .positions) i noPosition .node; index = goesAt (p .depth) i (getD (p .positions) i noPosition .index) }
+  pub each : (i : ℕ) → i < d → getD (q .positions) i noPosition ≡ record { node = getD (p .positions) i noPosition .node; index = goesAt (p .depth) i (getD (p .positions) i noPosition .index) }
 
--- the edge of a prune to row e, and how many nodes go: a node all of whose entries go is no part of it, except the root
+-- the path climbed to the first node that keeps an entry, or to the root; k nodes go
+pub record Topped (C : Shape) (P : ℕ) (w : List ℕ) (e root : ℕ) (p : Path) (k : ℕ) : Type 0 where
+  pub climbed : Climbed C P w e root p
+  pub whole : count C w (lastOf p .node .0) ≤ lastOf p .index → p .depth ≡ 1
+  pub counted : k ≡ length (wentOf C w (trimsOn p))
+
+-- the edge of a prune to row e: on each level of the tree a node with how many of its entries go, 0 below the last that loses some
 pub record Edged (C : Shape) (P : ℕ) (w : List ℕ) (e root : ℕ) (edge : Path) (k : ℕ) : Type 0 where
   pub from : Path
-  pub climbed : Climbed C P w e root from
-  pub whole : count C w (lastOf from .node .0) ≤ lastOf from .index → from .depth ≡ 1
-  pub settled : Settled from edge
-  pub counted : k ≡ length (wentOf C w (trimsOn from))
+  pub topped : Topped C P w e root from k
+  pub settled : Settled from edge (height C w root + 1)

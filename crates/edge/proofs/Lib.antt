@@ -1,3 +1,2 @@
-pub mod Goes
-pub mod Boundary
-pub mod Climbs
+pub mod Settling
+pub mod Climbing

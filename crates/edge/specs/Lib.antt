@@ -1,1 +1,1 @@
-pub mod Edge
+pub mod Found

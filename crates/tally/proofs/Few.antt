@@ -34,3 +34,6 @@ few-more n =
 -- few are counted exactly
 pub few-is : (n : ℕ) → n ≤ 65535 → few n ≡ n
 few-is n l = low n (omega arith)
+
+pub few-most : (n : ℕ) → few n ≤ 2 ^ 32
+few-most n = by-test (ltb n (2 ^ 32)) (λ t. let l = ltb-true n (2 ^ 32) t in omega (arith, low n l)) (λ t. omega (arith, high n (ltb-false n (2 ^ 32) t)))
