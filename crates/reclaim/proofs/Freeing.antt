@@ -6,26 +6,24 @@ use mathlib.Core.Path.{_≡_, refl, sym, ap, _∙_, subst}
 use native.Mathlib.Omega.{arith}
 use lib.ListN.{length, take}
 use lib.Seq.{take-nil}
-use lib.Dec.{T, ltb}
-use borrow.Author.Tests.{ltb-true, ltb-false}
-use Rattle.model.specs.Words.{Shape, height, count, row, child, freeCount, Header, freed, freeAll}
-use Rattle.model.specs.Tree.{nodeAt}
-use Rattle.model.specs.Reading.{Visit, Enter, Leave, Bad, passes, occ}
-use Rattle.model.specs.Paths.{lastOf, above, turned}
+use lib.Dec.{T}
+use Rattle.model.specs.Words.{Shape, height, count, child, freeCount, Header, freed, freeAll}
+use Rattle.model.specs.Reading.{Visit, Enter, Leave, occ}
+use Rattle.model.specs.Paths.{lastOf}
 use Rattle.model.specs.declared.path.Path.{Path}
-use Rattle.model.proofs.Tests.{by-test}
 use Rattle.model.proofs.Words.{header-at}
 use Rattle.model.proofs.Frame.{occ-self}
 use Rattle.model.proofs.Writes.{occ-cons, freed-length, freed-keeps, freed-count}
 use Rattle.formed.proofs.Clean.{clean}
 use Rattle.formed.proofs.Tally.{left as lefts}
-use Rattle.walk.specs.Left.{bound, left, ValidPath, Moves}
-use Rattle.walk.specs.Turn.{hasChild}
-use Rattle.walk.proofs.Valid.{Top, valid-top}
+use Rattle.walk.specs.Left.{left, ValidPath, Moves}
+use Rattle.walk.specs.declared.turn.Step.the-variants.{Up, Down}
+use Rattle.walk.specs.Turn.{hasChild, stepping}
+use Rattle.walk.proofs.Valid.{Top, valid-deep}
 use Rattle.walk.proofs.Rest.{left-none}
-use Rattle.walk.proofs.Moves.{far-move, bad-move, enter-move}
-use Rattle.walk.proofs.Branch.{branch, move-out}
-use Rattle.walk.proofs.InPlace.{popped, turnedPath, enteredPath, turned-trail, entered-trail, entered-length}
+use Rattle.walk.proofs.Tests.{branch}
+use Rattle.walk.proofs.InPlace.{popped, enteredPath, entered-length}
+use Rattle.walk.proofs.Turns.{Known, falls, at-top, step-up, below-32, known-in, step-down}
 use Rattle.reclaim.proofs.Leaving.{Stays, left-stays}
 
 -- What holds at a turn: j of k nodes are freed, and W are the words at the end. What is left has no unsound node and
@@ -45,6 +43,9 @@ pub record Goes (C : Shape) (P : ℕ) (W : List ℕ) (k : ℕ) (w : List ℕ) (p
   pub less : length (left false C P v q) < length (left false C P w p)
 
 module _ {C : Shape} {P : ℕ} {W : List ℕ} {k j : ℕ} {w : List ℕ} {p : Path} (f : Freeable C P W k j w p) where
+  pub known : Known C P w p
+  known = record { valid = f .valid; deep = valid-deep C P w p (f .valid); long = f .long; all-clean = f .all-clean }
+
   -- k nodes are freed
   pub enough : k ≤ j → w ≡ W
   unfolding freeAll
@@ -65,17 +66,14 @@ module _ {C : Shape} {P : ℕ} {W : List ℕ} {k j : ℕ} {w : List ℕ} {p : Pa
       (λ m l. freed-keeps C w n m (λ e. absurd (omega (arith, z, ap (λ (x : ℕ). occ x (lefts (left false C P w q))) e))))
 
   module _ (z : 0 < p .depth) where
-    pub last-top : Top C P w (p .positions) (p .depth) (height C w (lastOf p .node .0))
-    last-top = valid-top C P w p z (f .valid)
-
     -- the last node is left, and freed
-    pub goes-out : j < k → hasChild C w (lastOf p .node .0) (lastOf p .index) ≡ false → Goes C P W k w p (j + 1) (freed C w (lastOf p .node .0)) (popped p)
+    pub goes-out : j < k → Up ≡ stepping C w (lastOf p .node .0) (lastOf p .index) → Goes C P W k w p (j + 1) (freed C w (lastOf p .node .0)) (popped p)
     unfolding clean lefts freeAll
     goes-out l e =
         let n = lastOf p .node .0 in
         let q = popped p in
         let v = freed C w n in
-        let a = move-out false C P w p (f .valid) z q e refl in
+        let a = step-up known z e in
         let s = free-left q n a in
         let one : left false C P w p ≡ Leave n ∷ left false C P v q = a .one ∙ ap (λ (vs : List Visit). Leave n ∷ vs) (s .0) in
         let i : k - j ≡ suc (k - (j + 1)) = omega arith in
@@ -92,47 +90,39 @@ module _ {C : Shape} {P : ℕ} {W : List ℕ} {k j : ℕ} {w : List ℕ} {p : Pa
           less = omega (arith, ap (λ (vs : List Visit). length vs) one);
         }
 
-    module _ (e : hasChild C w (lastOf p .node .0) (lastOf p .index) ≡ true) where
-      abbrev pub kid : ℕ
-      kid = child C w (lastOf p .node .0) (lastOf p .index)
+    -- child c is entered
+    enters : (c : ℕ) → Moves false C P w p (Enter c) (enteredPath p c) → Goes C P W k w p j w (enteredPath p c)
+    unfolding clean lefts
+    enters c a =
+        record {
+          free = record {
+            header = f .header;
+            valid = a .valid;
+            all-clean = subst (λ (vs : List Visit). T (clean vs)) (a .one) (f .all-clean);
+            once-each = λ m. subst (λ (vs : List Visit). occ m (lefts vs) ≤ 1) (a .one) (f .once-each m);
+            room = f .room;
+            long = entered-length p z (f .long) c;
+            told = f .told ∙ ap (λ (vs : List Visit). freeAll C w (take (k - j) (lefts vs))) (a .one);
+          };
+          less = falls a;
+        }
 
+    pub goes-down : (c : ℕ) → Down (record { 0 = c }) ≡ stepping C w (lastOf p .node .0) (lastOf p .index) → Goes C P W k w p j w (enteredPath p c)
+    goes-down c e = enters c (step-down known z c e)
+
+    -- the same by has_child, for the count in reap
+    pub last-top : Top C P w (p .positions) (p .depth) (height C w (lastOf p .node .0))
+    last-top = at-top known z
+
+    module _ (e : hasChild C w (lastOf p .node .0) (lastOf p .index) ≡ true) where
       pub inside : lastOf p .index < count C w (lastOf p .node .0)
       inside = branch C w (lastOf p .node .0) (lastOf p .index) e .1
 
       pub deep : p .depth < 32
-      deep = omega (arith, last-top .deep, branch C w (lastOf p .node .0) (lastOf p .index) e .0)
+      deep = below-32 known z e
 
-      no-bad : {A : Type 0} (n : ℕ) → Moves false C P w p (Bad n) (turnedPath p) → A
-      unfolding clean
-      no-bad n a = absurd (subst (λ (vs : List Visit). T (clean vs)) (a .one) (f .all-clean))
+      pub sound-in : Moves false C P w p (Enter (child C w (lastOf p .node .0) (lastOf p .index))) (enteredPath p (child C w (lastOf p .node .0) (lastOf p .index)))
+      sound-in = known-in known z e
 
-      -- a child that no visit calls unsound is entered
-      pub sound-in : Moves false C P w p (Enter kid) (enteredPath p kid)
-      sound-in =
-          let n = lastOf p .node .0 in
-          let g = height C w n - 1 in
-          let hi : height C w n ≡ suc g = omega (arith, branch C w n (lastOf p .index) e .0) in
-          let t = turned-trail p z (f .long) (omega (arith, deep)) in
-          by-test (ltb kid P)
-          (λ u. let i = ltb-true kid P u in
-          by-test (passes false C g (nodeAt C w kid) (row C w n (lastOf p .index)) (bound C w (turned (lastOf p) ∷ above p)))
-          (λ s. enter-move false C P w p (f .valid) z (enteredPath p kid) g hi inside i s (entered-trail p z (f .long) kid deep))
-          (λ s. no-bad kid (bad-move false C P w p (f .valid) z (turnedPath p) g hi inside i s t)))
-          (λ u. no-bad n (far-move false C P w p (f .valid) z (turnedPath p) g hi inside (ltb-false kid P u) t))
-
-      pub goes-in : Goes C P W k w p j w (enteredPath p kid)
-      unfolding clean lefts
-      goes-in =
-          let a = sound-in in
-          record {
-            free = record {
-              header = f .header;
-              valid = a .valid;
-              all-clean = subst (λ (vs : List Visit). T (clean vs)) (a .one) (f .all-clean);
-              once-each = λ m. subst (λ (vs : List Visit). occ m (lefts vs) ≤ 1) (a .one) (f .once-each m);
-              room = f .room;
-              long = entered-length p z (f .long) kid;
-              told = f .told ∙ ap (λ (vs : List Visit). freeAll C w (take (k - j) (lefts vs))) (a .one);
-            };
-            less = omega (arith, ap (λ (vs : List Visit). length vs) (a .one));
-          }
+      pub goes-in : Goes C P W k w p j w (enteredPath p (child C w (lastOf p .node .0) (lastOf p .index)))
+      goes-in = enters (child C w (lastOf p .node .0) (lastOf p .index)) sound-in

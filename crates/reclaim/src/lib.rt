@@ -13,6 +13,7 @@ use model::path::Position;
 use node::layout::Layout;
 use node_chain;
 use walk::turn;
+use walk::turn::Step;
 
 // Frees the first k nodes, in postorder, of the tree from root.
 pub fn free_first(l: Layout, s: &mut [u64], root: NodeNo, k: u64)
@@ -34,24 +35,18 @@ pub fn free_first(l: Layout, s: &mut [u64], root: NodeNo, k: u64)
         let depth = path.depth;
         let at = depth - 1;
         let top = path.positions[at];
-        let node = top.node;
-        let index = top.index;
-        let more = turn::has_child(l, &s[..], node, index);
-        if more {
-            let child = l.child(&s[..], node, index);
-            path.positions[at] = Position {
-                node,
-                index: index + 1,
-            };
-            path.positions[depth] = Position {
-                node: child,
-                index: 0,
-            };
-            path.depth = depth + 1;
-        } else {
-            node_chain::free_node(l, s, node);
-            freed += 1;
-            path.depth = at;
+        match turn::untested(l, &s[..], top) {
+            Step::Up => {
+                let node = top.node;
+                node_chain::free_node(l, s, node);
+                freed += 1;
+                path.depth = at;
+            }
+            Step::Down(child) => {
+                path.positions[at] = top.turned();
+                path.positions[depth] = Position::entered(child);
+                path.depth = depth + 1;
+            }
         }
     }
 }
