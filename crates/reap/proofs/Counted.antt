@@ -25,10 +25,9 @@ use Rattle.formed.proofs.Clean.{clean}
 use Rattle.formed.proofs.Tally.{left as lefts, left-nodes}
 use Rattle.walk.specs.Left.{bound, rest, left, Valid}
 use Rattle.walk.specs.Turn.{hasChild}
-use Rattle.walk.proofs.Rest.{child-good, left-none}
+use Rattle.walk.proofs.Rest.{child-good, left-none, root-valid}
 use Rattle.walk.proofs.Branch.{move-out}
 use Rattle.walk.proofs.InPlace.{rooted, rooted-left, popped, enteredPath}
-use Rattle.survey.proofs.FromRoot.{root-valid}
 use Rattle.reclaim.specs.Ready.{Ready}
 use Rattle.reclaim.proofs.Freeing.{Freeable, sound-in, goes-in}
 use Rattle.reclaim.proofs.Root.{start-freeing}

@@ -107,8 +107,8 @@ module _ {C : Shape} {P : ℕ} {W : List ℕ} {k j : ℕ} {w : List ℕ} {p : Pa
           less = falls a;
         }
 
-    pub goes-down : (c : ℕ) → Down (record { 0 = c }) ≡ stepping C w (lastOf p .node .0) (lastOf p .index) → Goes C P W k w p j w (enteredPath p c)
-    goes-down c e = enters c (step-down known z c e)
+    pub goes-down : {c : ℕ} → Down (record { 0 = c }) ≡ stepping C w (lastOf p .node .0) (lastOf p .index) → Goes C P W k w p j w (enteredPath p c)
+    goes-down {c} e = enters c (step-down known z e)
 
     -- the same by has_child, for the count in reap
     pub last-top : Top C P w (p .positions) (p .depth) (height C w (lastOf p .node .0))

@@ -97,13 +97,13 @@ module _ {C : Shape} {P : ℕ} {w L : List ℕ} {p : Path} {l : List ℕ} {a : �
           }
 
     -- a child is entered
-    pub takes-in : (c : ℕ) → Down (record { 0 = c }) ≡ stepping C w (lastOf p .node .0) (lastOf p .index) → Takes C P w L p (enteredPath p c) l a
+    pub takes-in : {c : ℕ} → Down (record { 0 = c }) ≡ stepping C w (lastOf p .node .0) (lastOf p .index) → Takes C P w L p (enteredPath p c) l a
     unfolding pagesOf
-    takes-in c e =
-        let m = step-down (t .walk) z c e in
+    takes-in e =
+        let m = step-down (t .walk) z e in
         record {
           taking = record {
-            walk = known-down (t .walk) z c e;
+            walk = known-down (t .walk) z e;
             told = t .told ∙ ap (λ (vs : List Visit). fill l a (pagesOf C w vs)) (m .one);
             room = omega (arith, t .room, ap (λ (vs : List Visit). length (pagesOf C w vs)) (m .one));
           };

@@ -11,8 +11,7 @@ use Rattle.model.specs.Refusals.{refusal}
 use Rattle.model.specs.Prune.{Scan, on, scan, ranOut}
 use Rattle.model.specs.Paths.{entered}
 use Rattle.walk.specs.Left.{rest}
-use Rattle.walk.proofs.Rest.{passes-fits}
-use Rattle.survey.proofs.FromRoot.{root-valid}
+use Rattle.walk.proofs.Rest.{passes-fits, root-valid}
 use Rattle.prefix_leaf.specs.Progress.{progressOf}
 use Rattle.prefix.proofs.Scanning.{tree-scan, tree-stopped, root-last, root-passed}
 use Rattle.prefix.specs.Named.{Ending}

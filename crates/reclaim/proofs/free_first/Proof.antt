@@ -61,7 +61,7 @@ enum-known-child : tie.Need-enum-known-child Inv-loop μ-loop
 enum-known-child c = search needs
 
 turned-requires : tie.Need-turned-requires Inv-loop μ-loop
-turned-requires c κs = omega (arith, step-short (known (c .before .before .before .before .before .before .before .before .loop .inv)) (c .before .before .before .before .before .before .before .loop-test .taken) _ (sym (c .before .child .given .1) ∙ c .before .before .before .untested .ensures), c .before .before .before .before .before .before .before .before .loop .inv .header .cap-high)
+turned-requires c κs = omega (arith, step-short (known (c .before .before .before .before .before .before .before .before .loop .inv)) (c .before .before .before .before .before .before .before .loop-test .taken) (sym (c .before .child .given .1) ∙ c .before .before .before .untested .ensures), c .before .before .before .before .before .before .before .before .loop .inv .header .cap-high)
 
 mul-path : tie.Need-mul-path Inv-loop μ-loop
 mul-path c = omega (arith, known (c .before .before .before .before .before .before .before .before .before .loop .inv) .deep)
@@ -76,16 +76,16 @@ mul-t26 : tie.Need-mul-t26 Inv-loop μ-loop
 mul-t26 c = omega (arith, known (c .before .before .before .before .before .before .before .before .before .before .loop .inv) .deep)
 
 element-set-from-path-2 : tie.Need-element-set-from-path-2 Inv-loop μ-loop
-element-set-from-path-2 c = step-room (known (c .before .before .before .before .before .before .before .before .before .before .loop .inv)) (c .before .before .before .before .before .before .before .before .before .loop-test .taken) _ (sym (c .before .before .before .child .given .1) ∙ c .before .before .before .before .before .untested .ensures)
+element-set-from-path-2 c = step-room (known (c .before .before .before .before .before .before .before .before .before .before .loop .inv)) (c .before .before .before .before .before .before .before .before .before .loop-test .taken) (sym (c .before .before .before .child .given .1) ∙ c .before .before .before .before .before .untested .ensures)
 
 add-path : tie.Need-add-path Inv-loop μ-loop
 add-path c = omega (arith, known (c .before .before .before .before .before .before .before .before .before .before .loop .inv) .deep)
 
 loop-less-2 : tie.Need-loop-less-2 Inv-loop μ-loop
-loop-less-2 c = rw (c .entered .ensures, c .before .turned .ensures) (goes-down (c .before .before .before .before .before .before .before .before .before .before .loop .inv) (c .before .before .before .before .before .before .before .before .before .loop-test .taken) _ (sym (c .before .before .before .child .given .1) ∙ c .before .before .before .before .before .untested .ensures) .less)
+loop-less-2 c = rw (c .entered .ensures, c .before .turned .ensures) (goes-down (c .before .before .before .before .before .before .before .before .before .before .loop .inv) (c .before .before .before .before .before .before .before .before .before .loop-test .taken) (sym (c .before .before .before .child .given .1) ∙ c .before .before .before .before .before .untested .ensures) .less)
 
 loop-again-2 : tie.Need-loop-again-2 Inv-loop μ-loop
-loop-again-2 c = rw (c .entered .ensures, c .before .turned .ensures) (goes-down (c .before .before .before .before .before .before .before .before .before .before .loop .inv) (c .before .before .before .before .before .before .before .before .before .loop-test .taken) _ (sym (c .before .before .before .child .given .1) ∙ c .before .before .before .before .before .untested .ensures) .free)
+loop-again-2 c = rw (c .entered .ensures, c .before .turned .ensures) (goes-down (c .before .before .before .before .before .before .before .before .before .before .loop .inv) (c .before .before .before .before .before .before .before .before .before .loop-test .taken) (sym (c .before .before .before .child .given .1) ∙ c .before .before .before .before .before .untested .ensures) .free)
 
 same-length-2 : tie.Need-same-length-2 Inv-loop μ-loop
 same-length-2 c = c .before .loop .inv .header .long ∙ sym (c .before .before .before .pre .header .long)

@@ -59,7 +59,7 @@ enum-known-child : tie.Need-enum-known-child Inv-loop μ-loop
 enum-known-child c = search needs
 
 turned-requires : tie.Need-turned-requires Inv-loop μ-loop
-turned-requires c κs = omega (arith, step-short (c .before .before .before .before .before .before .loop .inv .0 .walk) (c .before .before .before .before .before .loop-test .taken) _ (sym (c .before .child .given .1) ∙ c .before .before .before .untested .ensures), c .before .before .before .before .before .before .before .before .before .pre .0 .header .cap-high)
+turned-requires c κs = omega (arith, step-short (c .before .before .before .before .before .before .loop .inv .0 .walk) (c .before .before .before .before .before .loop-test .taken) (sym (c .before .child .given .1) ∙ c .before .before .before .untested .ensures), c .before .before .before .before .before .before .before .before .before .pre .0 .header .cap-high)
 
 mul-path : tie.Need-mul-path Inv-loop μ-loop
 mul-path c = search needs
@@ -74,16 +74,16 @@ mul-t23 : tie.Need-mul-t23 Inv-loop μ-loop
 mul-t23 c = search needs
 
 element-set-from-path-2 : tie.Need-element-set-from-path-2 Inv-loop μ-loop
-element-set-from-path-2 c = step-room (c .before .before .before .before .before .before .before .before .loop .inv .0 .walk) (c .before .before .before .before .before .before .before .loop-test .taken) _ (sym (c .before .before .before .child .given .1) ∙ c .before .before .before .before .before .untested .ensures)
+element-set-from-path-2 c = step-room (c .before .before .before .before .before .before .before .before .loop .inv .0 .walk) (c .before .before .before .before .before .before .before .loop-test .taken) (sym (c .before .before .before .child .given .1) ∙ c .before .before .before .before .before .untested .ensures)
 
 add-path : tie.Need-add-path Inv-loop μ-loop
 add-path c = search needs
 
 loop-less-2 : tie.Need-loop-less-2 Inv-loop μ-loop
-loop-less-2 c = rw (c .entered .ensures, c .before .turned .ensures) (takes-in (c .before .before .before .before .before .before .before .before .loop .inv .0) (c .before .before .before .before .before .before .before .loop-test .taken) _ (sym (c .before .before .before .child .given .1) ∙ c .before .before .before .before .before .untested .ensures) .less)
+loop-less-2 c = rw (c .entered .ensures, c .before .turned .ensures) (takes-in (c .before .before .before .before .before .before .before .before .loop .inv .0) (c .before .before .before .before .before .before .before .loop-test .taken) (sym (c .before .before .before .child .given .1) ∙ c .before .before .before .before .before .untested .ensures) .less)
 
 loop-again-2 : tie.Need-loop-again-2 Inv-loop μ-loop
-loop-again-2 c = rw (c .entered .ensures, c .before .turned .ensures) (takes-in (c .before .before .before .before .before .before .before .before .loop .inv .0) (c .before .before .before .before .before .before .before .loop-test .taken) _ (sym (c .before .before .before .child .given .1) ∙ c .before .before .before .before .before .untested .ensures) .taking, c .before .before .before .before .before .before .before .before .loop .inv .1)
+loop-again-2 c = rw (c .entered .ensures, c .before .turned .ensures) (takes-in (c .before .before .before .before .before .before .before .before .loop .inv .0) (c .before .before .before .before .before .before .before .loop-test .taken) (sym (c .before .before .before .child .given .1) ∙ c .before .before .before .before .before .untested .ensures) .taking, c .before .before .before .before .before .before .before .before .loop .inv .1)
 
 same-length : tie.Need-same-length Inv-loop μ-loop
 same-length c = c .before .loop .inv .1
