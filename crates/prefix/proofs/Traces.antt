@@ -23,8 +23,9 @@ use Rattle.formed.proofs.Clean.{leaf-rises}
 use Rattle.walk.specs.Left.{bound, lowest}
 use Rattle.walk.specs.Turn.{hasChild}
 use Rattle.walk.proofs.Rest.{bound-turned}
-use Rattle.walk.proofs.Branch.{branch, Went}
-use Rattle.walk.proofs.InPlace.{rooted, popped}
+use Rattle.walk.proofs.Tests.{branch}
+use Rattle.walk.proofs.Branch.{Went}
+use Rattle.walk.proofs.InPlace.{rooted, popped, enteredPath}
 use Rattle.prefix_leaf.specs.Behind.{Passed, limitAt, Done, Above, Behind, BehindPath}
 
 -- one more pair at the end
@@ -170,14 +171,16 @@ module _ (C : Shape) (P : ℕ) (w : List ℕ) (root : ℕ) where
         (λ v. over (inr (ltb-false (lastOf p .index) (count C w n) v))))
         (λ u. over (inl (omega (arith, ltb-false 0 (height C w n) u))))
 
-    pub path-in : hasChild C w (lastOf p .node .0) (lastOf p .index) ≡ true → (b : Limit) → b ≡ bound C w (above p) → (c : ℕ) (next : Limit) (first : ℕ) → child C w (lastOf p .node .0) (lastOf p .index) < P
-        → Went false C P w (lastOf p .node .0) (lastOf p .index) b c next first → (q : Path) → trail q ≡ entered c ∷ turned (lastOf p) ∷ above p → BehindPath C P w root q
-    path-in e b f c next first i W q t =
+    pub path-in : {b : Limit} {c : ℕ} {next : Limit} {first : ℕ} → b ≡ bound C w (above p) → Went C P w (lastOf p .node .0) (lastOf p .index) b c next first
+        → trail (enteredPath p c) ≡ entered c ∷ turned (lastOf p) ∷ above p → BehindPath C P w root (enteredPath p c)
+    path-in {b} {c} f W t =
         let n = lastOf p .node .0 in
+        let i = lastOf p .index in
         let g = height C w n - 1 in
-        let hi : height C w n ≡ suc g = omega (arith, branch C w n (lastOf p .index) e .0) in
+        let k = branch C w n i (W .has) in
+        let hi : height C w n ≡ suc g = omega (arith, k .0) in
         let B₂ = subst (λ (k : ℕ). Behind C P w root k (lastOf p ∷ above p)) hi at-last in
-        let s : passes false C g (nodeAt C w (child C w n (lastOf p .index))) (row C w n (lastOf p .index)) (bound C w (turned (lastOf p) ∷ above p)) ≡ true =
-        ap (passes false C g (nodeAt C w (child C w n (lastOf p .index))) (row C w n (lastOf p .index))) (bound-turned C w (lastOf p) (above p) ∙ ap (nextRow C w n (lastOf p .index)) (sym f)) ∙ W .good in
-        to-path g (entered (child C w n (lastOf p .index)) ∷ turned (lastOf p) ∷ above p) q (t ∙ ap (λ (x : ℕ). entered x ∷ turned (lastOf p) ∷ above p) (W .number))
-        (behind-in C P w root g (lastOf p) (above p) B₂ (branch C w n (lastOf p .index) e .1) i s)
+        let s : passes false C g (nodeAt C w (child C w n i)) (row C w n i) (bound C w (turned (lastOf p) ∷ above p)) ≡ true =
+        ap (passes false C g (nodeAt C w (child C w n i)) (row C w n i)) (bound-turned C w (lastOf p) (above p) ∙ ap (nextRow C w n i) (sym f)) ∙ W .good in
+        to-path g (entered (child C w n i) ∷ turned (lastOf p) ∷ above p) (enteredPath p c) (t ∙ ap (λ (x : ℕ). entered x ∷ turned (lastOf p) ∷ above p) (W .number))
+        (behind-in C P w root g (lastOf p) (above p) B₂ (k .1) (W .range) s)

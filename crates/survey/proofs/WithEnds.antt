@@ -2,7 +2,7 @@
 use Prim.Native.Nat.{ℕ, zero, suc, _+_, _-_, _<_, _≤_}
 use mathlib.Core.List.{List, [], _∷_}
 use mathlib.Core.Bool.{Bool, true, false}
-use mathlib.Core.Path.{_≡_, refl, sym, _∙_}
+use mathlib.Core.Path.{_≡_, refl, sym, ap, _∙_}
 use native.Mathlib.Omega.{arith}
 use lib.Dec.{leb, ltb}
 use borrow.Author.Tests.{lt-ltb, le-ltb, ltb-true, ltb-false}
@@ -10,17 +10,17 @@ use lib.ListN.{set, replicate}
 use Rattle.model.specs.Words.{Shape, pick, part, height, start, end, maxHeight}
 use Rattle.model.specs.Tree.{Open, nodeAt, emptyRoot}
 use Rattle.model.specs.Tree as Tree
-use Rattle.model.specs.Reading.{endFits, passes, rootVisits}
+use Rattle.model.specs.Reading.{Visit, endFits, passes, rootVisits}
 use Rattle.model.specs.Paths.{entered}
 use Rattle.model.specs.declared.path.Path.{Path}
 use Rattle.model.proofs.Tests.{by-test}
 use Rattle.node_test.specs.Test.{limitOf}
 use Rattle.node_test.specs.declared.Limit.{Limit}
 use Rattle.node_test.specs.declared.Limit.the-variants as Limits
-use Rattle.walk.specs.Left.{left, rest, Valid}
+use Rattle.walk.specs.Left.{left, below, Valid}
 use Rattle.walk.specs.Turn.{outOf, up, down, bad}
 use Rattle.walk.proofs.Rest.{left-none}
-use Rattle.walk.proofs.InPlace.{rooted, popped, enteredPath}
+use Rattle.walk.proofs.InPlace.{rooted, rooted-left, popped, enteredPath}
 use Rattle.walk.proofs.Turns.{by-ends, Held, turnAt, start-held, turn-up, held-up, turn-bad, narrow, turn-down, turn-wrong, held-down}
 use Rattle.tally.specs.Tally.{counted, tally}
 use Rattle.tally.specs.declared.Counts.{Counts}
@@ -121,16 +121,17 @@ module _ {C : Shape} {P : ℕ} {w : List ℕ} {T E : Survey} {p : Path} {nexts :
 -- The first turn, and the root -----------------------------------------------------------------------------
 
 pub start-both : (C : Shape) (P : ℕ) (w : List ℕ) (root first : ℕ) (k : Counts) (m : ℕ) → Valid C P w (height C w root) (entered root ∷ []) → first ≡ outOf C P w (height C w root) root
-    → Both C P w (tally C w (left false C P w (rooted root)) k) (withEnds P m (tally C w (left true C P w (rooted root)) k)) (rooted root) (replicate 32 Limits.Open) (replicate 32 first) k m
+    → Both C P w (tally C w (below false C P w root) k) (withEnds P m (tally C w (below true C P w root) k)) (rooted root) (replicate 32 Limits.Open) (replicate 32 first) k m
 start-both C P w root first k m v e =
-    let t : Survey = tally C w (left true C P w (rooted root)) k in
-    record { held = start-held C P w root first v e; nodes = refl; ends = record { seen = with-seen P m t; none = with-none P m t } }
+    let t : Survey = tally C w (below true C P w root) k in
+    let same : (ends : Bool) → tally C w (below ends C P w root) k ≡ tally C w (left ends C P w (rooted root)) k = λ ends. ap (λ (vs : List Visit). tally C w vs k) (sym (rooted-left ends C P w root v)) in
+    record { held = start-held C P w root first v e; nodes = same false; ends = record { seen = with-seen P m t; none = λ l. with-none P m t l ∙ same true } }
 
 -- a sound root was looked at
 pub from-both : (C : Shape) (P : ℕ) (w : List ℕ) (n : ℕ) (k : Counts) → emptyRoot C w n ≡ false → leb (height C w n) maxHeight ≡ true → n < P → passes false C (height C w n) (nodeAt C w n) (start C w n) Open ≡ true
-    → tally C w (rootVisits true C P w n) k ≡ withEnds P (wrongEnd C P w n Open P) (tally C w (rest true C P w (height C w n) (entered n ∷ [])) (counted C w n k))
+    → tally C w (rootVisits true C P w n) k ≡ withEnds P (wrongEnd C P w n Open P) (tally C w (below true C P w n) (counted C w n k))
 from-both C P w n k e h i s =
-    let t = tally C w (rest true C P w (height C w n) (entered n ∷ [])) (counted C w n k) in
+    let t = tally C w (below true C P w n) (counted C w n k) in
     let both-ways : (x : Bool) → endFits (height C w n) Open (end C w n) ≡ x → passes true C (height C w n) (nodeAt C w n) (start C w n) Open ≡ x = λ x f. by-ends true C (height C w n) (nodeAt C w n) (start C w n) Open true s ∙ f in
     by-test (endFits (height C w n) Open (end C w n))
     (λ f. rw (end-right C P w n Open P f, with-none P P t (omega arith)) (from-good true C P w n k e h i (both-ways true f)))

@@ -10,7 +10,7 @@ ghost use Rattle.model.specs.Reading.{rootVisits};
 ghost use Rattle.model.specs.Paths.{entered};
 ghost use Rattle.node.specs.Layout.{Fits, shapeOf};
 ghost use Rattle.node_test.specs.Test.{limitOf};
-ghost use Rattle.walk.specs.Left.{Valid, rest};
+ghost use Rattle.walk.specs.Left.{Valid, below};
 ghost use Rattle.walk.specs.Turn.{outOf};
 ghost use Rattle.tally.specs.Tally.{more, noCounts, tally};
 ghost use Rattle.survey.specs.Ends.{wrongEnd, withEnds};
@@ -80,8 +80,8 @@ fn survey_below(
     requires { ⌜ Fits l (now s) ⌝ }
     requires { ⌜ Valid (shapeOf l) (l .pool) (now s) (height (shapeOf l) (now s) (root .0)) (entered (root .0) ∷ []) ⌝ }
     requires { ⌜ first ≡ outOf (shapeOf l) (l .pool) (now s) (height (shapeOf l) (now s) (root .0)) (root .0) ⌝ }
-    ensures nodes { λ r. ⌜ r .nodes ≡ tally (shapeOf l) (now (s .entry)) (rest false (shapeOf l) (l .pool) (now (s .entry)) (height (shapeOf l) (now (s .entry)) (root .0)) (entered (root .0) ∷ [])) start ⌝ }
-    ensures ends { λ r. ⌜ r .ends ≡ withEnds (l .pool) (seen .0) (tally (shapeOf l) (now (s .entry)) (rest true (shapeOf l) (l .pool) (now (s .entry)) (height (shapeOf l) (now (s .entry)) (root .0)) (entered (root .0) ∷ [])) start) ⌝ }
+    ensures nodes { λ r. ⌜ r .nodes ≡ tally (shapeOf l) (now (s .entry)) (below false (shapeOf l) (l .pool) (now (s .entry)) (root .0)) start ⌝ }
+    ensures ends { λ r. ⌜ r .ends ≡ withEnds (l .pool) (seen .0) (tally (shapeOf l) (now (s .entry)) (below true (shapeOf l) (l .pool) (now (s .entry)) (root .0)) start) ⌝ }
 {
     let mut path = Path {
         positions: [Position {
@@ -101,12 +101,8 @@ fn survey_below(
         let top = path.positions[at];
         let next = walk_limit::limit(bounded[at], rows[at]);
         match turn::tested(l, s, top, firsts[at], next) {
-            Turn::Up => {
-                path.depth = at;
-            }
-            Turn::Bad(n) => {
-                return both(l, Survey::Unsound(n), wrong);
-            }
+            Turn::Up => path.depth = at,
+            Turn::Bad(n) => return both(l, Survey::Unsound(n), wrong),
             Turn::Down(child, beyond, inner) => {
                 path.positions[at] = top.turned();
                 path.positions[depth] = Position::entered(child);

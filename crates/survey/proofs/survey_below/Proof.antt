@@ -1,15 +1,12 @@
 use borrow.Author.Needs.{needs}
-use Prim.Native.Nat.{ℕ}
-use mathlib.Core.List.{List}
 use mathlib.Core.Bool.{true, false}
 use mathlib.Core.Path.{_≡_, refl, sym, ap, _∙_}
 use native.Mathlib.Omega.{arith}
 use lib.ListN.{length, length-set}
 use Rattle.node.specs.Layout.{shapeOf}
-use Rattle.model.specs.Reading.{Visit}
-use Rattle.walk.specs.Left.{left}
+use Rattle.model.specs.Paths.{lastOf}
+use Rattle.walk.specs.Left.{below, left}
 use Rattle.walk.specs.Turn.{turnOf}
-use Rattle.walk.proofs.InPlace.{rooted-left}
 use Rattle.walk.proofs.Turns.{falls, placed, turn-up, room, short, narrow, turn-down}
 use Rattle.tally.specs.Tally.{tally}
 use Rattle.walk_limit.specs.Limits.{limit, limits}
@@ -21,7 +18,7 @@ use Rattle.survey.proofs.survey_below.Tie as tie
 
 abbrev Inv-loop : tie.InvT-loop
 Inv-loop l s first path₀ bounded₀ rows₀ firsts₀ counts₀ wrong₀ path bounded rows firsts counts wrong =
-    Both (shapeOf l) (l .pool) s (tally (shapeOf l) s (left false (shapeOf l) (l .pool) s path₀) counts₀) (withEnds (l .pool) (wrong₀ .0) (tally (shapeOf l) s (left true (shapeOf l) (l .pool) s path₀) counts₀)) path (limits bounded rows) firsts counts (wrong .0)
+    Both (shapeOf l) (l .pool) s (tally (shapeOf l) s (below false (shapeOf l) (l .pool) s (lastOf path₀ .node .0)) counts₀) (withEnds (l .pool) (wrong₀ .0) (tally (shapeOf l) s (below true (shapeOf l) (l .pool) s (lastOf path₀ .node .0)) counts₀)) path (limits bounded rows) firsts counts (wrong .0)
     × (length bounded ≡ 32) × (length rows ≡ 32)
 
 abbrev μ-loop : tie.MeasureT-loop
@@ -87,10 +84,7 @@ returns c =
     let x = c .before .before .before .before .before .before .before .before .loop in
     let z = c .before .before .before .before .before .before .before .loop-test .taken in
     let q = both-bad (x .inv .0) z (turn-is (x .bounded) (x .rows) (x .inv .0 .held) z _ (sym (ap turnOf (c .before .before .n .given .1)) ∙ c .before .before .before .before .tested .ensures) (c .before .before .before .before .before .limit .ensures)) in
-    let a = c .before .before .before .before .before .before .before .before .before .before .args in
-    let v = c .before .before .before .before .before .before .before .before .before .before .pre .1 .0 in
-    let r = c .both .ensures in
-    (r .0 ∙ q .0 ∙ ap (λ (vs : List Visit). tally (shapeOf (a .l)) (a .s .now) vs (a .start)) (rooted-left false (shapeOf (a .l)) (a .l .pool) (a .s .now) (a .root .0) v), r .1 ∙ q .1 ∙ ap (λ (vs : List Visit). withEnds (a .l .pool) (a .seen .0) (tally (shapeOf (a .l)) (a .s .now) vs (a .start))) (rooted-left true (shapeOf (a .l)) (a .l .pool) (a .s .now) (a .root .0) v))
+    (c .both .ensures .0 ∙ q .0, c .both .ensures .1 ∙ q .1)
 
 enum-known-child : tie.Need-enum-known-child Inv-loop μ-loop
 enum-known-child c = search needs
@@ -183,10 +177,7 @@ both-requires-2 c κs = search needs
 returns-2 : tie.Need-returns-2 Inv-loop μ-loop
 returns-2 c =
     let q = both-done (c .before .before .loop .inv .0) (c .before .loop-test .left) in
-    let a = c .before .before .before .before .args in
-    let v = c .before .before .before .before .pre .1 .0 in
-    let r = c .both2 .ensures in
-    (r .0 ∙ q .0 ∙ ap (λ (vs : List Visit). tally (shapeOf (a .l)) (a .s .now) vs (a .start)) (rooted-left false (shapeOf (a .l)) (a .l .pool) (a .s .now) (a .root .0) v), r .1 ∙ q .1 ∙ ap (λ (vs : List Visit). withEnds (a .l .pool) (a .seen .0) (tally (shapeOf (a .l)) (a .s .now) vs (a .start))) (rooted-left true (shapeOf (a .l)) (a .l .pool) (a .s .now) (a .root .0) v))
+    (c .both2 .ensures .0 ∙ q .0, c .both2 .ensures .1 ∙ q .1)
 
 pub survey-below-spec : {M : Type 1} → statement M
 survey-below-spec =
