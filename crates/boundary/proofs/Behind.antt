@@ -11,7 +11,7 @@ use borrow.Author.Tests.{lt-ltb, le-ltb, ltb-false}
 use Rattle.model.specs.Words.{Shape, pick, part, height, count, start, end, row, child}
 use Rattle.model.specs.Tree.{Limit, Open, Below, Level, pairsFrom, nodeAt, level, next, last, sound, allPairs, AllSound}
 use Rattle.model.specs.Reading.{passes, nextRow}
-use Rattle.model.specs.Paths.{stack, trail, lastOf, above, turned, entered}
+use Rattle.model.specs.Paths.{stack, trail, lastOf, above, turned, entered, rooted}
 use Rattle.model.specs.declared.path.Position.{Position}
 use Rattle.model.specs.declared.path.Path.{Path}
 use Rattle.model.proofs.Tests.{holds, and-l, by-test}
@@ -25,7 +25,7 @@ use Rattle.walk.specs.Turn.{hasChild}
 use Rattle.walk.proofs.Rest.{bound-turned}
 use Rattle.walk.proofs.Tests.{branch}
 use Rattle.walk.proofs.Branch.{Went}
-use Rattle.walk.proofs.InPlace.{rooted, popped}
+use Rattle.walk.proofs.InPlace.{popped, enteredPath}
 use Rattle.boundary.specs.Behind.{Passed, limitAt, Done, Above, Behind, BehindPath}
 
 -- one more pair at the end
@@ -140,6 +140,14 @@ module _ (C : Shape) (P : ℕ) (w : List ℕ) where
         };
       }
 
+-- a node that has no more children is a leaf, or all its entries are done
+pub no-more : (C : Shape) (w : List ℕ) (n i : ℕ) → hasChild C w n i ≡ false → (height C w n ≡ 0) ⊎ (count C w n ≤ i)
+unfolding hasChild
+no-more C w n i e =
+    by-test (ltb 0 (height C w n))
+    (λ u. by-test (ltb i (count C w n)) (λ v. absurd (false≢true (sym e ∙ rw (u, v)))) (λ v. inr (ltb-false i (count C w n) v)))
+    (λ u. inl (omega (arith, ltb-false 0 (height C w n) u)))
+
 -- The same in the loop's terms -----------------------------------------------------------------------------
 module _ (C : Shape) (P : ℕ) (w : List ℕ) (root : ℕ) where
   fit : (h : ℕ) (st : List Position) → Behind C P w root h st → Behind C P w root (lowest C w st) st
@@ -161,24 +169,18 @@ module _ (C : Shape) (P : ℕ) (w : List ℕ) (root : ℕ) where
     at-last = subst (λ (st : List Position). Behind C P w root (lowest C w st) st) (stack-pop (p .positions) (p .depth) z) B
 
     pub path-out : hasChild C w (lastOf p .node .0) (lastOf p .index) ≡ false → BehindPath C P w root (popped p)
-    unfolding hasChild
-    path-out e =
-        let n = lastOf p .node .0 in
-        let over : (height C w n ≡ 0) ⊎ (count C w n ≤ lastOf p .index) → BehindPath C P w root (popped p) = λ o. to-path (suc (height C w n)) (above p) (popped p) refl (behind-out C P w root (height C w n) (lastOf p) (above p) at-last o) in
-        by-test (ltb 0 (height C w n))
-        (λ u. by-test (ltb (lastOf p .index) (count C w n))
-        (λ v. absurd (false≢true (sym e ∙ rw (u, v))))
-        (λ v. over (inr (ltb-false (lastOf p .index) (count C w n) v))))
-        (λ u. over (inl (omega (arith, ltb-false 0 (height C w n) u))))
+    path-out e = to-path (suc (height C w (lastOf p .node .0))) (above p) (popped p) refl (behind-out C P w root (height C w (lastOf p .node .0)) (lastOf p) (above p) at-last (no-more C w (lastOf p .node .0) (lastOf p .index) e))
 
-    pub path-in : (b : Limit) → b ≡ bound C w (above p) → (c : ℕ) (next : Limit) (first : ℕ) → Went C P w (lastOf p .node .0) (lastOf p .index) b c next first
-        → (q : Path) → trail q ≡ entered c ∷ turned (lastOf p) ∷ above p → BehindPath C P w root q
-    path-in b f c next first W q t =
+    pub path-in : {b : Limit} {c : ℕ} {next : Limit} {first : ℕ} → b ≡ bound C w (above p) → Went C P w (lastOf p .node .0) (lastOf p .index) b c next first
+        → trail (enteredPath p c) ≡ entered c ∷ turned (lastOf p) ∷ above p → BehindPath C P w root (enteredPath p c)
+    path-in {b} {c} f W t =
         let n = lastOf p .node .0 in
+        let i = lastOf p .index in
         let g = height C w n - 1 in
-        let hi : height C w n ≡ suc g = omega (arith, branch C w n (lastOf p .index) (W .has) .0) in
+        let k = branch C w n i (W .has) in
+        let hi : height C w n ≡ suc g = omega (arith, k .0) in
         let B₂ = subst (λ (k : ℕ). Behind C P w root k (lastOf p ∷ above p)) hi at-last in
-        let s : passes false C g (nodeAt C w (child C w n (lastOf p .index))) (row C w n (lastOf p .index)) (bound C w (turned (lastOf p) ∷ above p)) ≡ true =
-        ap (passes false C g (nodeAt C w (child C w n (lastOf p .index))) (row C w n (lastOf p .index))) (bound-turned C w (lastOf p) (above p) ∙ ap (nextRow C w n (lastOf p .index)) (sym f)) ∙ W .good in
-        to-path g (entered (child C w n (lastOf p .index)) ∷ turned (lastOf p) ∷ above p) q (t ∙ ap (λ (x : ℕ). entered x ∷ turned (lastOf p) ∷ above p) (W .number))
-        (behind-in C P w root g (lastOf p) (above p) B₂ (branch C w n (lastOf p .index) (W .has) .1) (W .range) s)
+        let s : passes false C g (nodeAt C w (child C w n i)) (row C w n i) (bound C w (turned (lastOf p) ∷ above p)) ≡ true =
+        ap (passes false C g (nodeAt C w (child C w n i)) (row C w n i)) (bound-turned C w (lastOf p) (above p) ∙ ap (nextRow C w n i) (sym f)) ∙ W .good in
+        to-path g (entered (child C w n i) ∷ turned (lastOf p) ∷ above p) (enteredPath p c) (t ∙ ap (λ (x : ℕ). entered x ∷ turned (lastOf p) ∷ above p) (W .number))
+        (behind-in C P w root g (lastOf p) (above p) B₂ (k .1) (W .range) s)

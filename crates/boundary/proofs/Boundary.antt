@@ -23,7 +23,8 @@ use Rattle.cut.proofs.Rests.{withPairs}
 use Rattle.walk.specs.Left.{bound}
 use Rattle.formed.proofs.Clean.{leaf-rises}
 use Rattle.model.specs.Prune.{entryEnd}
-use Rattle.boundary.specs.Behind.{Passed, limitAt, Done, Above, Behind, Last}
+use Rattle.boundary.specs.Behind.{Passed, limitAt, Done, Above, Behind}
+use Rattle.prefix_leaf.specs.Progress.{Last}
 use Rattle.boundary.proofs.Behind.{tall, behind-out}
 use Rattle.boundary.specs.Edge.{Meets, at, firstPairs, firstNodes, wentOf, Stays, trimsUp, Cutting}
 use Rattle.boundary.proofs.Goes.{gone-cons, cut-append, went-append, trims-append, pairs-split, all-went, pairs-go, goes}

@@ -3,7 +3,7 @@ use Prim.Native.Nat.{ℕ, zero, suc, _+_, _-_, _<_, _≤_}
 use mathlib.Core.List.{List, [], _∷_, _++_, append-nil}
 use mathlib.Core.Bool.{false}
 use mathlib.Core.Path.{_≡_, refl, sym, ap, _∙_, subst}
-use mathlib.Core.Logic.{inl, inr}
+use mathlib.Core.Logic.{inr}
 use native.Mathlib.Omega.{arith}
 use lib.ListN.{getD, set, length, length-set, length-append, take}
 use lib.Seq.{getD-set-same}
@@ -27,12 +27,13 @@ use Rattle.walk.proofs.Valid.{valid-top, valid-path}
 use Rattle.walk.proofs.Moves.{leaf-move, end-move}
 use Rattle.walk.proofs.InPlace.{popped}
 use Rattle.walk.proofs.Trace.{walked-out}
-use Rattle.boundary.specs.Behind.{Above, Behind, Last}
+use Rattle.boundary.specs.Behind.{Above, Behind}
+use Rattle.prefix_leaf.specs.Progress.{Last}
 use Rattle.boundary.specs.Edge.{Meets, at, firstPairs, firstNodes, wentOf, Stays, trimsUp, trimsOn, Cutting, Ended, Climbed}
 use Rattle.boundary.proofs.Behind.{tall, at-last}
 use Rattle.boundary.proofs.Goes.{all-went}
 use Rattle.boundary.proofs.Boundary.{stays-here, stays-root, cutting-up, cutting-leaf}
-use Rattle.boundary.proofs.Went.{went-out, went-leaf, went-first}
+use Rattle.boundary.proofs.Went.{went-leaf, went-popped, went-first}
 use Rattle.boundary.proofs.Joined.{stack-length, top-height, edge-spine}
 use Rattle.boundary.proofs.Distinct.{firstsOf, spine-each, spine-inside}
 
@@ -131,11 +132,7 @@ module _ (C : Shape) (P : ℕ) (w : List ℕ) (e root : ℕ) where
       leaves = end-move false C P w p (c .valid) (c .deep) (popped p) m refl
 
       more-went : wentOf C w (trimsOn (popped p)) ≡ wentOf C w (trimsOn p) ++ (lastOf p .node .0 ∷ [])
-      unfolding Behind
-      more-went =
-          let b = subst (λ (st : List Position). Behind C P w root (height C w (lastOf p .node .0)) (lastOf p ∷ st)) over (c .cutting .behind) in
-          went-out C P w root (height C w (lastOf p .node .0)) (lastOf p .node .0) (lastOf p .index) (lastOf (popped p)) (above (popped p)) (b .passed) (b .above) (inr (omega (arith, b .within)))
-          ∙ ap (λ (st : List Position). wentOf C w (trimsUp st ((lastOf p .node .0, lastOf p .index) ∷ [])) ++ (lastOf p .node .0 ∷ [])) (sym over)
+      more-went = went-popped C P w p (c .deep) root (c .cutting .behind) l (inr m)
 
       pub climb : Climbed C P w e root (popped p)
       unfolding lefts

@@ -5,14 +5,18 @@ use mathlib.Core.Path.{_≡_, refl, sym, ap, _∙_, subst}
 use mathlib.Core.Logic.{_⊎_, inl, inr, ⊎-elim}
 use native.Mathlib.Omega.{arith}
 use native.Mathlib.Nat.{zero-add}
-use lib.ListN.{length, take}
+use lib.ListN.{getD, length, take}
 use Rattle.model.specs.Words.{Shape, height, count, row, child}
 use Rattle.model.specs.Tree.{Level, pairsFrom, level}
 use Rattle.model.specs.Reading.{inPairs, nodes, rootNodes}
+use Rattle.model.specs.Paths.{noPosition, stack, lastOf, above, turned, entered, rooted}
 use Rattle.model.specs.declared.path.Position.{Position}
+use Rattle.model.specs.declared.path.Path.{Path}
+use Rattle.model.proofs.Paths.{stack-pop}
 use Rattle.model.proofs.Writes.{pairs-snoc}
-use Rattle.boundary.specs.Behind.{Passed, Above}
-use Rattle.boundary.specs.Edge.{firstPairs, firstNodes, wentOf, trimsUp}
+use Rattle.walk.proofs.InPlace.{popped, enteredPath, entered-under, entered-last}
+use Rattle.boundary.specs.Behind.{Passed, Above, Behind}
+use Rattle.boundary.specs.Edge.{firstPairs, firstNodes, wentOf, trimsUp, trimsOn}
 use Rattle.boundary.proofs.Behind.{tall}
 use Rattle.boundary.proofs.Goes.{pairs-split}
 
@@ -100,6 +104,33 @@ module _ (C : Shape) (P : ℕ) (w : List ℕ) where
       ∙ ap (λ (l : List ℕ). F ++ l) (ap (λ (x : ℕ). firstNodes C w x m j ++ (firstNodes C w (height C w n) n k ++ [])) (tall C P w (suc h) m up (a .passed)) ∙ ap (λ (l : List ℕ). A ++ l) (append-nil (firstNodes C w (height C w n) n k) ∙ ap (λ (x : ℕ). firstNodes C w x n k) (tall C P w h n (q ∷ up) p))) in
       went-up up ((m, q .index) ∷ []) ∙ ap (λ (l : List ℕ). F ++ l) (append-nil (firstNodes C w (height C w m) m (q .index)) ∙ after ∙ sym (append-assoc A (firstNodes C w h n k) (n ∷ [])))
       ∙ sym (append-assoc F (A ++ firstNodes C w h n k) (n ∷ [])) ∙ ap (λ (l : List ℕ). l ++ (n ∷ [])) (sym before)
+
+  -- The same on a path ------------------------------------------------------------------------------------
+  pub went-rooted : (n : ℕ) → [] ≡ wentOf C w (trimsOn (rooted n))
+  unfolding stack trimsUp wentOf
+  went-rooted n = sym (append-nil (firstNodes C w (height C w n) n 0) ∙ first-none (height C w n) n)
+
+  module _ (p : Path) (z : 0 < p .depth) where
+    pub went-entered : length (p .positions) ≡ 32 → p .depth < 32 → (c : ℕ) → wentOf C w (trimsOn p) ≡ wentOf C w (trimsOn (enteredPath p c))
+    unfolding trimsUp
+    went-entered l d c =
+        let y : p .depth + 1 - 1 ≡ p .depth = omega arith in
+        let i : lastOf p .index + 1 - 1 ≡ lastOf p .index = omega arith in
+        let a : above (enteredPath p c) ≡ turned (lastOf p) ∷ above p = ap (stack (enteredPath p c .positions)) y ∙ entered-under p z l c (omega arith) in
+        let q : lastOf (enteredPath p c) ≡ entered c = ap (λ (j : ℕ). getD (enteredPath p c .positions) j noPosition) y ∙ entered-last p z l c d in
+        sym (ap (λ (st : List Position). wentOf C w (trimsUp st ((lastOf (enteredPath p c) .node .0, lastOf (enteredPath p c) .index) ∷ []))) a
+        ∙ ap (λ (x : Position). wentOf C w (trimsUp (turned (lastOf p) ∷ above p) ((x .node .0, x .index) ∷ []))) q
+        ∙ ap (λ (j : ℕ). wentOf C w (trimsUp (above p) ((lastOf p .node .0, j) ∷ (c, 0) ∷ []))) i ∙ went-in (above p) (lastOf p .node .0) (lastOf p .index) c)
+
+    pub went-popped : (root : ℕ) → Behind C P w root (height C w (lastOf p .node .0)) (lastOf p ∷ above p) → 1 < p .depth → (height C w (lastOf p .node .0) ≡ 0) ⊎ (count C w (lastOf p .node .0) ≤ lastOf p .index)
+        → wentOf C w (trimsOn (popped p)) ≡ wentOf C w (trimsOn p) ++ (lastOf p .node .0 ∷ [])
+    unfolding Behind
+    went-popped root b₀ l o =
+        let n = lastOf p .node .0 in
+        let over : above p ≡ lastOf (popped p) ∷ above (popped p) = stack-pop (p .positions) (p .depth - 1) (omega arith) in
+        let b = subst (λ (st : List Position). Behind C P w root (height C w n) (lastOf p ∷ st)) over b₀ in
+        went-out root (height C w n) n (lastOf p .index) (lastOf (popped p)) (above (popped p)) (b .passed) (b .above) (⊎-elim (λ (e : height C w n ≡ 0). inl e) (λ (m : count C w n ≤ lastOf p .index). inr (omega (arith, b .within))) o)
+        ∙ ap (λ (st : List Position). wentOf C w (trimsUp st ((n, lastOf p .index) ∷ [])) ++ (n ∷ [])) (sym over)
 
   -- The order ----------------------------------------------------------------------------------------------
 

@@ -6,7 +6,6 @@ use mathlib.Core.Path.{_≡_}
 use lib.Dec.{T, ltb}
 use Rattle.model.specs.Words.{Shape, pick, part, height, count, start, end, row, child}
 use Rattle.model.specs.Tree.{Limit, Below, sound, level, last, pairsFrom, allPairs, AllSound}
-use Rattle.model.specs.Prune.{entryEnd}
 use Rattle.model.specs.Paths.{trail}
 use Rattle.model.specs.declared.path.Position.{Position}
 use Rattle.model.specs.declared.path.Path.{Path}
@@ -52,10 +51,3 @@ module _ (C : Shape) (P : ℕ) (w : List ℕ) where
 
   unfoldable pub BehindPath : ℕ → Path → Type 0
   BehindPath root p = Behind root (lowest C w (trail p)) (trail p)
-
--- the last entry named is entry u - 1 of leaf n, and ends at row c
-pub record Last (C : Shape) (w : List ℕ) (n u c : ℕ) : Type 0 where
-  pub leaf : height C w n ≡ 0
-  pub some : 1 ≤ u
-  pub within : u ≤ count C w n
-  pub ends : c ≡ entryEnd C w n (u - 1)

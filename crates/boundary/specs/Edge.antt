@@ -15,7 +15,8 @@ use Rattle.formed.specs.Visits.{lefts}
 use Rattle.tally.specs.Tally.{few}
 use Rattle.walk.specs.Left.{ValidPath}
 use Rattle.walk.specs.Trace.{Walked}
-use Rattle.boundary.specs.Behind.{limitAt, Behind, BehindPath, Last}
+use Rattle.boundary.specs.Behind.{limitAt, Behind, BehindPath}
+use Rattle.prefix_leaf.specs.Progress.{Last}
 
 -- the end of the last entry that goes is what is next
 unfoldable pub Meets : Limit → ℕ → Type 0

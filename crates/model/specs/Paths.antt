@@ -1,7 +1,7 @@
 -- 01, "What the source's own forms become": "`Vec` stacks become a path record holding 32 positions, one for each level."
 use Prim.Native.Nat.{ℕ, zero, suc, _+_, _-_}
 use mathlib.Core.List.{List, [], _∷_}
-use lib.ListN.{getD}
+use lib.ListN.{getD, replicate}
 use Rattle.model.specs.declared.path.Position.{Position}
 use Rattle.model.specs.declared.path.Path.{Path}
 
@@ -31,3 +31,7 @@ turned p = record { node = p .node; index = p .index + 1 }
 -- a node just entered
 abbrev pub entered : ℕ → Position
 entered n = record { node = record { 0 = n }; index = 0 }
+
+-- a path at it
+abbrev pub rooted : ℕ → Path
+rooted n = record { positions = replicate 32 (entered n); depth = 1 }

@@ -3,7 +3,7 @@
 ghost use mathlib.Core.Path.{_≡_};
 ghost use mathlib.Core.List.{[]};
 ghost use Prim.Native.Nat.{_+_, _<_};
-ghost use Rattle.model.specs.Paths.{entered, trail, turned};
+ghost use Rattle.model.specs.Paths.{entered, rooted, trail, turned};
 use crate::id::NodeNo;
 
 // A node, and the next of its entries to follow.
@@ -37,6 +37,16 @@ pub struct Path {
 }
 
 impl Path {
+    // At a node just entered.
+    pub fn rooted(node: NodeNo) -> Path
+        ensures { λ r. ⌜ r ≡ rooted (node .0) ⌝ }
+    {
+        Path {
+            positions: [Position { node, index: 0 }; 32],
+            depth: 1,
+        }
+    }
+
     pub fn new() -> Path
         ensures { λ r. ⌜ (trail r ≡ []) × (r .depth ≡ 0) ⌝ }
     {

@@ -11,9 +11,10 @@ ghost use Rattle.model.specs.Reading.{passes, visits};
 ghost use Rattle.model.specs.Prune.{on, ranOut, scan};
 ghost use Rattle.model.specs.Paths.{entered};
 ghost use Rattle.node.specs.Layout.{Fits, shapeOf};
-ghost use Rattle.walk.specs.Left.{Valid, rest};
+ghost use Rattle.walk.specs.Left.{Valid, below};
 ghost use Rattle.walk.specs.Turn.{outOf};
-ghost use Rattle.prefix_leaf.specs.Behind.{Last, Passed};
+ghost use Rattle.boundary.specs.Behind.{Passed};
+ghost use Rattle.prefix_leaf.specs.Progress.{Last};
 ghost use Rattle.prefix.specs.Named.{Ending};
 ghost use Rattle.prefix_leaf.specs.Progress.{namedOf};
 use model::answer::Refusal;
@@ -26,15 +27,30 @@ use node_test::Limit;
 use prefix_leaf;
 use prefix_leaf::Named;
 use prefix_leaf::Progress;
+use tally;
 use walk::turn;
-use walk::turn::Entered;
+use walk::turn::Turn;
 
-// What the list names, the path to the leaf of the last entry named, and how many entries of that leaf are named. On the
-// path each position but the last stands at the entry after the one that leads down.
+// What the list names, the path to the leaf of the last entry named, how many entries of that leaf are named, and how many
+// nodes the scan left. On the path each position but the last stands at the entry after the one that leads down.
 pub struct Prefix {
     pub answer: Named,
     pub path: Path,
     pub used: u64,
+    pub left: u64,
+}
+
+// A list that is refused.
+fn refused(r: Refusal) -> Prefix
+    ensures { λ x. ⌜ x .answer ≡ Named.Refused r ⌝ }
+{
+    let path = Path::new();
+    Prefix {
+        answer: Named::Refused(r),
+        path,
+        used: 0,
+        left: 0,
+    }
 }
 
 // The leaves below a node that was entered, against the ids from this place on. The path is stored to in place.
@@ -45,98 +61,56 @@ fn scan_below(
     first: u64,
     end: RowID,
     ids: &[u64],
-    place: usize,
-    reached: RowID,
-    used: u64,
+    mut place: usize,
+    mut reached: RowID,
+    mut used: u64,
 ) -> Prefix
     requires { ⌜ Fits l (now s) ⌝ }
     requires { ⌜ Valid (shapeOf l) (l .pool) (now s) (height (shapeOf l) (now s) (root .0)) (entered (root .0) ∷ []) ⌝ }
     requires { ⌜ first ≡ outOf (shapeOf l) (l .pool) (now s) (height (shapeOf l) (now s) (root .0)) (root .0) ⌝ }
     requires { ⌜ (Passed (shapeOf l) (l .pool) (now s) (height (shapeOf l) (now s) (root .0)) (root .0) []) × (length (now ids) ≤ place → Last (shapeOf l) (now s) (root .0) used (reached .0)) ⌝ }
-    ensures answer { λ r. ⌜ namedOf (end .0) (r .answer) ≡ ranOut (end .0) (scan (shapeOf l) (now (s .entry)) (end .0) (rest false (shapeOf l) (l .pool) (now (s .entry)) (height (shapeOf l) (now (s .entry)) (root .0)) (entered (root .0) ∷ [])) (on (drop place (now (ids .entry))) place (reached .0))) ⌝ }
+    ensures answer { λ r. ⌜ namedOf (end .0) (r .answer) ≡ ranOut (end .0) (scan (shapeOf l) (now (s .entry)) (end .0) (below false (shapeOf l) (l .pool) (now (s .entry)) (root .0)) (on (drop place (now (ids .entry))) place (reached .0))) ⌝ }
     ensures edge { λ r. ⌜ Ending (shapeOf l) (l .pool) (now (s .entry)) (end .0) (root .0) r ⌝ }
 {
-    let mut path = Path {
-        positions: [Position {
-            node: root,
-            index: 0,
-        }; 32],
-        depth: 1,
-    };
+    let mut path = Path::rooted(root);
     let mut nexts = [Limit::Open; 32];
     let mut firsts = [first; 32];
-    let mut named = place;
-    let mut to = reached;
-    let mut last = used;
-    while 0 < path.depth {
-        if ids.len() <= named {
-            let answer = prefix_leaf::finish(end, named, to);
-            return Prefix {
-                answer,
-                path,
-                used: last,
-            };
-        }
+    let mut left: u64 = 0;
+    while place < ids.len() {
         let depth = path.depth;
+        if depth == 0 {
+            return refused(Refusal::ListTooLong(place as u64));
+        }
         let at = depth - 1;
         let top = path.positions[at];
-        let node = top.node;
-        let index = top.index;
-        let more = turn::has_child(l, s, node, index);
-        if !more {
-            path.depth = at;
-        } else {
-            let out = firsts[at];
-            if out <= index {
-                return Prefix {
-                    answer: Named::Refused(Refusal::Unsound(node)),
-                    path,
-                    used: last,
-                };
+        match turn::tested(l, s, top, firsts[at], nexts[at]) {
+            Turn::Up => {
+                path.depth = at;
+                left = tally::add(left, 1);
             }
-            let next = nexts[at];
-            match turn::enter(l, s, node, index, next) {
-                Entered::Bad(n) => {
-                    return Prefix {
-                        answer: Named::Refused(Refusal::Unsound(n)),
-                        path,
-                        used: last,
-                    };
-                }
-                Entered::Child(child, beyond, inner) => {
-                    path.positions[at] = Position {
-                        node,
-                        index: index + 1,
-                    };
-                    path.positions[depth] = Position {
-                        node: child,
-                        index: 0,
-                    };
-                    nexts[depth] = beyond;
-                    firsts[depth] = inner;
-                    path.depth = depth + 1;
-                    match prefix_leaf::scan_node(l, s, child, end, ids, named, to) {
-                        Progress::Stopped(r) => {
-                            return Prefix {
-                                answer: Named::Refused(r),
-                                path,
-                                used: last,
-                            };
-                        }
-                        Progress::On(p, c) => {
-                            last = (p - named) as u64;
-                            named = p;
-                            to = c;
-                        }
+            Turn::Bad(n) => return refused(Refusal::Unsound(n)),
+            Turn::Down(child, beyond, inner) => {
+                path.positions[at] = top.turned();
+                path.positions[depth] = Position::entered(child);
+                path.depth = depth + 1;
+                nexts[depth] = beyond;
+                firsts[depth] = inner;
+                match prefix_leaf::scan_node(l, s, child, end, ids, place, reached) {
+                    Progress::Stopped(r) => return refused(r),
+                    Progress::On(p, c) => {
+                        used = (p - place) as u64;
+                        place = p;
+                        reached = c;
                     }
                 }
             }
         }
     }
     Prefix {
-        answer: Named::Refused(Refusal::ListTooLong(named as u64)),
+        answer: prefix_leaf::finish(end, place, reached),
         path,
-        used: last,
+        used,
+        left,
     }
 }
 
@@ -150,11 +124,7 @@ pub fn scan_tree(l: Layout, s: &[u64], root: NodeNo, first: u64, end: RowID, ids
     ensures edge { λ r. ⌜ Ending (shapeOf l) (l .pool) (now (s .entry)) (end .0) (root .0) r ⌝ }
 {
     match prefix_leaf::scan_node(l, s, root, end, ids, 0, RowID(0)) {
-        Progress::Stopped(r) => Prefix {
-            answer: Named::Refused(r),
-            path: Path::new(),
-            used: 0,
-        },
+        Progress::Stopped(r) => refused(r),
         Progress::On(p, c) => scan_below(l, s, root, first, end, ids, p, c, p as u64),
     }
 }

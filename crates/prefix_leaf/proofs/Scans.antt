@@ -14,7 +14,7 @@ use borrow.Author.Tests.{eq-eqb, ne-eqb, le-leb, lt-leb, eqb-true}
 use Rattle.model.specs.Words.{Shape, pick, height, count, child}
 use Rattle.model.specs.Reading.{Visit, Enter, Leave, Bad}
 use Rattle.model.proofs.Tests.{by-test}
-use Rattle.prefix_leaf.specs.Behind.{Last}
+use Rattle.prefix_leaf.specs.Progress.{Last}
 use Rattle.model.specs.Prune.{Scan, stopped, on, entryEnd, against, scanLeaf, spoilt, scan, ranOut}
 
 pick-same : {A : Type 0} (t : Bool) (a b : A) → a ≡ b → pick t a b ≡ b

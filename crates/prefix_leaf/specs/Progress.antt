@@ -1,10 +1,11 @@
 -- The entries of a leaf against the list, as the code answers it.
-use Prim.Native.Nat.{ℕ}
+use Prim.Native.Nat.{ℕ, _-_, _≤_}
 use mathlib.Core.Path.{_≡_}
 use mathlib.Core.List.{List, []}
 use lib.ListN.{drop}
 use Rattle.model.specs.Refusals.{Answer, result, refused, refusal}
-use Rattle.model.specs.Prune.{Scan, stopped, on}
+use Rattle.model.specs.Words.{Shape, height, count}
+use Rattle.model.specs.Prune.{Scan, stopped, on, entryEnd}
 use Rattle.prefix_leaf.specs.declared.Progress.{Progress}
 use Rattle.prefix_leaf.specs.declared.Progress.the-variants.{On, Stopped}
 use Rattle.prefix_leaf.specs.declared.Named.{Named}
@@ -29,3 +30,10 @@ namedOf e (Refused r) = stoppedBy (refusal r)
 unfoldable pub EndsAt : ℕ → ℕ → Named → Type 0
 EndsAt e c (Entries k) = c ≡ e
 EndsAt e c (Refused r) = Unit {0}
+
+-- the last entry named is entry u - 1 of leaf n, and ends at row c
+pub record Last (C : Shape) (w : List ℕ) (n u c : ℕ) : Type 0 where
+  pub leaf : height C w n ≡ 0
+  pub some : 1 ≤ u
+  pub within : u ≤ count C w n
+  pub ends : c ≡ entryEnd C w n (u - 1)

@@ -10,7 +10,7 @@ use lib.Dec.{T}
 use Rattle.model.specs.Words.{Shape, part, height, count, start, row, child, freeAll, freeCount, Header}
 use Rattle.model.specs.Tree.{Open, Level, nodeAt, level, pairsFrom, sound, AllSound}
 use Rattle.model.specs.Reading.{Visit, Enter, Leave, passes, visits, occ, inPairs, nodes, rootTree, rootNodes}
-use Rattle.model.specs.Paths.{lastOf, entered}
+use Rattle.model.specs.Paths.{lastOf, entered, rooted}
 use Rattle.model.specs.declared.path.Path.{Path}
 use Rattle.model.proofs.Tests.{is-true}
 use Rattle.model.proofs.Sound.{sound-at}
@@ -25,10 +25,9 @@ use Rattle.reap.specs.Spine.{pairsAt, nodesAt, Beside, Spine, goneOf}
 use Rattle.formed.proofs.Tally.{left-nodes}
 use Rattle.walk.specs.Left.{bound, rest, left, Valid}
 use Rattle.walk.specs.Turn.{hasChild}
-use Rattle.walk.proofs.Rest.{child-good, left-none}
+use Rattle.walk.proofs.Rest.{child-good, left-none, root-valid}
 use Rattle.walk.proofs.Branch.{move-out}
-use Rattle.walk.proofs.InPlace.{rooted, rooted-left, popped, enteredPath}
-use Rattle.survey.proofs.FromRoot.{root-valid}
+use Rattle.walk.proofs.InPlace.{rooted-left, popped, enteredPath}
 use Rattle.reclaim.specs.Ready.{Ready}
 use Rattle.reclaim.proofs.Freeing.{Freeable, sound-in, goes-in}
 use Rattle.reclaim.proofs.Root.{start-freeing}

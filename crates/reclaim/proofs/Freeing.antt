@@ -104,7 +104,7 @@ module _ {C : Shape} {P : ℕ} {w W : List ℕ} {k j : ℕ} {s : List ℕ} {p : 
             deep = f .deep;
             long = f .long;
             no-bad = λ m a. (let q = first-seen (f .seen) (f .after) _ (Bad m) (sym (f .parts) ∙ a .one) (omega (arith, f .many)) in
-            absurd (subst (λ (vs : List Visit). T (clean vs)) (q .1) (f .all-clean)));
+                absurd (subst (λ (vs : List Visit). T (clean vs)) (q .1) (f .all-clean)));
           }
 
       -- the last node is left, and freed
@@ -144,16 +144,16 @@ module _ {C : Shape} {P : ℕ} {w W : List ℕ} {k j : ℕ} {s : List ℕ} {p : 
         unfolding clean lefts enters onPath
         goes-in =
             let n = lastOf p .node .0 in
-            let a = step-down sure z c e in
+            let a = step-down sure z e in
             let q = first-seen (f .seen) (f .after) (left false C P w (enteredPath p c)) (Enter c) (sym (f .parts) ∙ a .one) (omega (arith, f .many)) in
             let more = q .0 in
             let left-is : lefts (f .seen) ≡ lefts more = ap (λ (vs : List Visit). lefts vs) (q .1) in
             let on-is : (m : ℕ) → occ m (onPath (trail (enteredPath p c))) + occ m (enters more) ≡ occ m (onPath (trail p)) + occ m (enters (f .seen)) =
-            λ m. omega (arith, on-top m, ap (λ (vs : List Visit). occ m (enters vs)) (q .1), occ-cons m c (enters more), ap (λ (st : List Position). occ m (onPath st)) (entered-trail p z (f .long) c (step-room sure z c e)), occ-cons m c (n ∷ onPath (above p)), occ-cons m n (onPath (above p))) in
+            λ m. omega (arith, on-top m, ap (λ (vs : List Visit). occ m (enters vs)) (q .1), occ-cons m c (enters more), ap (λ (st : List Position). occ m (onPath st)) (entered-trail p z (f .long) c (step-room sure z e)), occ-cons m c (n ∷ onPath (above p)), occ-cons m n (onPath (above p))) in
             record {
               header = f .header;
               valid = a .valid;
-              deep = omega (arith, step-room sure z c e);
+              deep = omega (arith, step-room sure z e);
               long = entered-length p z (f .long) c;
               seen = more;
               after = f .after;
@@ -167,7 +167,7 @@ module _ {C : Shape} {P : ℕ} {w W : List ℕ} {k j : ℕ} {s : List ℕ} {p : 
             }
 
         pub less-in : length (left false C P w (enteredPath p c)) < length (left false C P w p)
-        less-in = falls (step-down sure z c e)
+        less-in = falls (step-down sure z e)
 
         pub room-in : (p .depth < 32) × (lastOf p .index < C .cap)
-        room-in = (step-room sure z c e, step-short sure z c e)
+        room-in = (step-room sure z e, step-short sure z e)

@@ -11,7 +11,7 @@ use Rattle.model.specs.Words.{Shape, height, count, start, freeCount, Header, f
 use Rattle.model.specs.Tree.{Open, pairsFrom, nodeAt, sound, level, AllSound}
 use Rattle.model.specs.Reading.{Visit, Enter, Leave, passes, visits, occ, inPairs, nodes, rootTree, rootNodes}
 use Rattle.model.specs.WellFormed.{EmptyRoot, SoundRoot, emptyTree, soundTree}
-use Rattle.model.specs.Paths.{stack, entered}
+use Rattle.model.specs.Paths.{stack, entered, rooted}
 use Rattle.model.proofs.Tests.{by-test, is-true}
 use Rattle.model.proofs.Sound.{sound-at}
 use Rattle.model.proofs.Once.{once}
@@ -22,7 +22,7 @@ use Rattle.formed.proofs.Tally.{left-nodes, enters-nodes}
 use Rattle.walk.specs.Left.{bound, rest, Valid, left, onPath}
 use Rattle.walk.proofs.Valid.{valid-path}
 use Rattle.walk.proofs.Rest.{child-good, rest-end, valid-entered}
-use Rattle.walk.proofs.InPlace.{rooted, rooted-left}
+use Rattle.walk.proofs.InPlace.{rooted-left}
 use Rattle.reclaim.specs.Ready.{Ready}
 use Rattle.reclaim.proofs.Freeing.{Freeable}
 

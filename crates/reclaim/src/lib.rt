@@ -20,11 +20,7 @@ pub fn free_first(l: Layout, s: &mut [u64], root: NodeNo, k: u64)
     requires { ⌜ Ready (shapeOf l) (l .pool) (now s) (root .0) k ⌝ }
     ensures { λ _. ⌜ now (s .exit) ≡ freeAll (shapeOf l) (now (s .entry)) (take k (rootNodes (shapeOf l) (now (s .entry)) (root .0))) ⌝ }
 {
-    let start = Position::entered(root);
-    let mut path = Path {
-        positions: [start; 32],
-        depth: 1,
-    };
+    let mut path = Path::rooted(root);
     let mut freed: u64 = 0;
     while freed < k {
         let depth = path.depth;

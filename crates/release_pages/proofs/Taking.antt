@@ -1,48 +1,30 @@
--- The walk that takes page ids: what it knows at each turn, and what a turn keeps. No node is freed, so the walk of
--- reclaim is at none of none.
+-- The walk that takes page ids: what it knows at each turn, and what a turn keeps.
 use Prim.Native.Nat.{ℕ, suc, _+_, _<_, _≤_}
 use mathlib.Core.List.{List, [], _∷_, _++_}
 use mathlib.Core.Bool.{true, false}
-use mathlib.Core.Path.{_≡_, refl, sym, ap, _∙_, subst}
-use mathlib.Core.Logic.{_⊎_, inl, inr}
+use mathlib.Core.Path.{_≡_, refl, sym, ap, _∙_}
 use native.Mathlib.Omega.{arith}
 use lib.ListN.{length, length-append}
-use lib.Dec.{T}
-use Rattle.model.specs.Words.{Shape, fill, height, count, start, child, maxHeight, freeAll}
-use Rattle.model.specs.Tree.{Open, AllSound}
-use Rattle.model.specs.Reading.{Visit, Leave, occ, Entry, pageIds, rootEntries, rootTree}
-use Rattle.model.specs.WellFormed.{SoundRoot, emptyTree, soundTree}
-use Rattle.model.specs.Paths.{stack, lastOf}
+use Rattle.model.specs.Words.{Shape, fill, height}
+use Rattle.model.specs.Reading.{Visit, Leave, Entry, pageIds, rootEntries}
+use Rattle.model.specs.Paths.{stack, lastOf, entered, rooted}
 use Rattle.model.specs.declared.path.Path.{Path}
-use Rattle.model.proofs.Writes.{occ-cons}
-use Rattle.formed.specs.Visits.{clean, lefts}
-use Rattle.walk.specs.Left.{lowest, left, ValidPath, Moves}
-use Rattle.walk.specs.Turn.{hasChild}
+use Rattle.model.proofs.Fill.{fill-append, length-fill}
+use Rattle.walk.specs.Left.{lowest, left, ValidPath}
+use Rattle.walk.specs.declared.turn.Step.the-variants.{Up, Down}
+use Rattle.walk.specs.Turn.{stepping}
+use Rattle.walk.proofs.Valid.{valid-path}
 use Rattle.walk.proofs.Rest.{left-none}
-use Rattle.walk.proofs.Branch.{move-out}
-use Rattle.walk.proofs.InPlace.{rooted, rooted-left, popped, enteredPath}
-use Rattle.reclaim.specs.Ready.{Ready}
-use Rattle.reclaim.proofs.Freeing.{Freeable, enough, sound-in, goes-in}
-use Rattle.reclaim.proofs.Root.{start-freeing}
+use Rattle.walk.proofs.InPlace.{rooted-left, popped, enteredPath}
+use Rattle.walk.proofs.Turns.{Known, sure, falls, step-up, known-up, step-down, known-down}
+use Rattle.reclaim.proofs.Root.{begin}
 use Rattle.release_pages.specs.Pages.{pagesAt, pagesOf}
 use Rattle.release_pages.specs.Releasable.{Releasable}
-use Rattle.model.proofs.Fill.{fill-append, length-fill}
 use Rattle.release_pages.proofs.Found.{rest-pages}
-
-pub ready : {C : Shape} {P : ℕ} {w : List ℕ} {n k : ℕ} → Releasable C P w n k → Ready C P w n k
-ready {C} {P} {w} {n} {k} d = record { header = d .header; inside = d .inside; high = high (d .sound); sound = sound (d .sound); room = d .room }
-  where
-    high : SoundRoot C P w (height C w n) n → height C w n ≤ maxHeight
-    high (emptyTree e) = omega (arith, e .leaf)
-    high (soundTree l g) = l
-
-    sound : SoundRoot C P w (height C w n) n → ((height C w n ≡ 0) × (count C w n ≡ 0)) ⊎ AllSound C P (suc (height C w n)) (rootTree C w n) (start C w n) Open
-    sound (emptyTree e) = inl (e .leaf, e .none)
-    sound (soundTree l g) = inr g
 
 -- L is the list at the end; the next page goes to place a of list l
 pub record Taking (C : Shape) (P : ℕ) (w L : List ℕ) (p : Path) (l : List ℕ) (a : ℕ) : Type 0 where
-  pub walk : Freeable C P w 0 0 w p
+  pub walk : Known C P w p
   pub told : L ≡ fill l a (pagesOf C w (left false C P w p))
   pub room : a + length (pagesOf C w (left false C P w p)) ≤ length l
 
@@ -55,8 +37,11 @@ ids-length [] = refl
 ids-length (e ∷ es) = ap suc (ids-length es)
 
 module _ (C : Shape) (P : ℕ) (w : List ℕ) (n : ℕ) (l : List ℕ) (d : Releasable C P w n 0) where
-  walks : Freeable C P w 0 0 w (rooted n)
-  walks = let f = start-freeing C P w n 0 (ready d) in subst (λ (v : List ℕ). Freeable C P v 0 0 w (rooted n)) (sym (enough f (omega arith))) f
+  walks : Known C P w (rooted n)
+  unfolding stack
+  walks =
+      let b = begin C P w n (d .inside) (d .sound) in
+      record { valid = valid-path C P w (rooted n) (height C w n) (entered n ∷ []) refl (b .valid); deep = omega arith; long = refl; all-clean = rw (rooted-left false C P w n (b .valid)) (b .all-clean) }
 
   all-pages : pagesOf C w (left false C P w (rooted n)) ≡ pageIds (rootEntries C w n)
   unfolding ValidPath lowest stack
@@ -76,59 +61,39 @@ module _ {C : Shape} {P : ℕ} {w L : List ℕ} {p : Path} {l : List ℕ} {a : �
   all-taken z = sym (t .told ∙ ap (λ (vs : List Visit). fill l a (pagesOf C w vs)) (left-none false C P w p (omega arith)))
 
   module _ (z : 0 < p .depth) where
-    abbrev node : ℕ
-    node = lastOf p .node .0
-
     -- a node is left
-    module _ (e : hasChild C w (lastOf p .node .0) (lastOf p .index) ≡ false) where
-      out : Moves false C P w p (Leave node) (popped p)
-      out = move-out false C P w p (t .walk .valid) z (popped p) e refl
-
-      found : pagesOf C w (left false C P w p) ≡ pagesAt C w node ++ pagesOf C w (left false C P w (popped p))
+    module _ (e : Up ≡ stepping C w (lastOf p .node .0) (lastOf p .index)) where
+      found : pagesOf C w (left false C P w p) ≡ pagesAt C w (lastOf p .node .0) ++ pagesOf C w (left false C P w (popped p))
       unfolding pagesOf
-      found = ap (pagesOf C w) (out .one)
+      found = ap (pagesOf C w) (step-up (sure (t .walk)) z e .one)
 
-      both : length (pagesOf C w (left false C P w p)) ≡ length (pagesAt C w node) + length (pagesOf C w (left false C P w (popped p)))
-      both = ap length found ∙ length-append (pagesAt C w node) (pagesOf C w (left false C P w (popped p)))
+      both : length (pagesOf C w (left false C P w p)) ≡ length (pagesAt C w (lastOf p .node .0)) + length (pagesOf C w (left false C P w (popped p)))
+      both = ap length found ∙ length-append (pagesAt C w (lastOf p .node .0)) (pagesOf C w (left false C P w (popped p)))
 
       pub leaf-room : a + length (pagesAt C w (lastOf p .node .0)) ≤ length l
       leaf-room = omega (arith, both, t .room)
-
-      walk-out : Freeable C P w 0 0 w (popped p)
-      unfolding clean lefts freeAll
-      walk-out =
-          let f = t .walk in
-          record {
-            header = f .header;
-            valid = out .valid;
-            all-clean = subst (λ (vs : List Visit). T (clean vs)) (out .one) (f .all-clean);
-            once-each = λ m. (let o = subst (λ (vs : List Visit). occ m (lefts vs) ≤ 1) (out .one) (f .once-each m) in omega (arith, o, occ-cons m node (lefts (left false C P w (popped p)))));
-            room = f .room;
-            long = f .long;
-            told = refl;
-          }
 
       pub takes-out : Takes C P w L p (popped p) (fill l a (pagesAt C w (lastOf p .node .0))) (a + length (pagesAt C w (lastOf p .node .0)))
       takes-out =
           record {
             taking = record {
-              walk = walk-out;
-              told = t .told ∙ ap (fill l a) found ∙ fill-append l a (pagesAt C w node) (pagesOf C w (left false C P w (popped p)));
-              room = omega (arith, both, t .room, length-fill l a (pagesAt C w node));
+              walk = known-up (t .walk) z e;
+              told = t .told ∙ ap (fill l a) found ∙ fill-append l a (pagesAt C w (lastOf p .node .0)) (pagesOf C w (left false C P w (popped p)));
+              room = omega (arith, both, t .room, length-fill l a (pagesAt C w (lastOf p .node .0)));
             };
-            less = omega (arith, ap length (out .one));
+            less = falls (step-up (sure (t .walk)) z e);
           }
 
     -- a child is entered
-    pub takes-in : (e : hasChild C w (lastOf p .node .0) (lastOf p .index) ≡ true) → Takes C P w L p (enteredPath p (child C w (lastOf p .node .0) (lastOf p .index))) l a
+    pub takes-in : {c : ℕ} → Down (record { 0 = c }) ≡ stepping C w (lastOf p .node .0) (lastOf p .index) → Takes C P w L p (enteredPath p c) l a
     unfolding pagesOf
     takes-in e =
-        let m = sound-in (t .walk) z e in
+        let m = step-down (sure (t .walk)) z e in
         record {
           taking = record {
-            walk = goes-in (t .walk) z e .free;
+            walk = known-down (t .walk) z e;
             told = t .told ∙ ap (λ (vs : List Visit). fill l a (pagesOf C w vs)) (m .one);
             room = omega (arith, t .room, ap (λ (vs : List Visit). length (pagesOf C w vs)) (m .one));
           };
-          less = omega (arith, ap length (m .one));
+          less = falls m;
         }

@@ -14,6 +14,7 @@ use model::path::Position;
 use node::header;
 use node::layout::Layout;
 use walk::turn;
+use walk::turn::Step;
 
 // The page ids of a leaf go into the list from place at on; the place after them. A branch has none.
 fn copy_leaf(l: Layout, s: &[u64], n: NodeNo, pages: &mut [u64], at: usize) -> usize
@@ -44,35 +45,23 @@ pub fn copy_tree(l: Layout, s: &[u64], root: NodeNo, pages: &mut [u64])
     requires { ⌜ length (rootEntries (shapeOf l) (now s) (root .0)) ≤ length (now pages) ⌝ }
     ensures { λ _. ⌜ now (pages .exit) ≡ fill (now (pages .entry)) 0 (pageIds (rootEntries (shapeOf l) (now (s .entry)) (root .0))) ⌝ }
 {
-    let mut path = Path {
-        positions: [Position {
-            node: root,
-            index: 0,
-        }; 32],
-        depth: 1,
-    };
+    let mut path = Path::rooted(root);
     let mut place: usize = 0;
     while 0 < path.depth {
         let depth = path.depth;
         let at = depth - 1;
         let top = path.positions[at];
-        let node = top.node;
-        let index = top.index;
-        let more = turn::has_child(l, s, node, index);
-        if more {
-            let child = l.child(s, node, index);
-            path.positions[at] = Position {
-                node,
-                index: index + 1,
-            };
-            path.positions[depth] = Position {
-                node: child,
-                index: 0,
-            };
-            path.depth = depth + 1;
-        } else {
-            place = copy_leaf(l, s, node, pages, place);
-            path.depth = at;
+        match turn::untested(l, s, top) {
+            Step::Up => {
+                let node = top.node;
+                place = copy_leaf(l, s, node, pages, place);
+                path.depth = at;
+            }
+            Step::Down(child) => {
+                path.positions[at] = top.turned();
+                path.positions[depth] = Position::entered(child);
+                path.depth = depth + 1;
+            }
         }
     }
 }

@@ -10,8 +10,8 @@ use Rattle.model.specs.Words.{Shape, pick, part, height, count, start, maxHeigh
 use Rattle.model.specs.Tree.{Limit, Open, nodeAt, emptyRoot, level}
 use Rattle.model.specs.Reading.{Visit, Enter, Leave, Bad, passes, visits, rootVisits}
 use Rattle.model.specs.Paths.{entered}
-use Rattle.walk.specs.Left.{bound, rest, Valid}
-use Rattle.walk.proofs.Rest.{child-bad, child-good, valid-entered}
+use Rattle.walk.specs.Left.{bound, rest, below}
+use Rattle.walk.proofs.Rest.{child-bad, child-good}
 use Rattle.tally.specs.Tally.{counted, tally}
 use Rattle.tally.specs.declared.Counts.{Counts}
 use Rattle.tally.specs.declared.Survey.{Survey}
@@ -33,14 +33,9 @@ module _ (ends : Bool) (C : Shape) (P : ℕ) (w : List ℕ) (n : ℕ) (k : Count
       from-bad s = rw (e, h, child-bad ends C P w (height C w n) n n (start C w n) Open inside s)
 
       pub from-good : passes ends C (height C w n) (nodeAt C w n) (start C w n) Open ≡ true
-          → tally C w (rootVisits ends C P w n) k ≡ tally C w (rest ends C P w (height C w n) (entered n ∷ [])) (counted C w n k)
+          → tally C w (rootVisits ends C P w n) k ≡ tally C w (below ends C P w n) (counted C w n k)
       unfolding rootVisits tally bound rest
       from-good s =
-          let q : visits ends C P (suc (height C w n)) n (level C w (suc (height C w n)) n) (start C w n) Open ≡ Enter n ∷ rest ends C P w (height C w n) (entered n ∷ []) =
+          let q : visits ends C P (suc (height C w n)) n (level C w (suc (height C w n)) n) (start C w n) Open ≡ Enter n ∷ below ends C P w n =
           sym (append-nil (visits ends C P (suc (height C w n)) n (level C w (suc (height C w n)) n) (start C w n) Open)) ∙ child-good ends C P w (height C w n) n n (start C w n) [] inside s in
           rw (e, h, q)
-
-pub root-valid : (ends : Bool) (C : Shape) (P : ℕ) (w : List ℕ) (n : ℕ) → height C w n ≤ maxHeight → n < P → passes ends C (height C w n) (nodeAt C w n) (start C w n) Open ≡ true
-    → Valid C P w (height C w n) (entered n ∷ [])
-unfolding Valid
-root-valid ends C P w n h i s = valid-entered ends C P w n (height C w n) (start C w n) Open [] i s (omega arith)

@@ -1,38 +1,24 @@
 -- Limits kept as flags and rows.
-use Prim.Native.Nat.{ℕ, zero, suc, _+_, _-_, _<_, _≤_, zero-le}
+use Prim.Native.Nat.{ℕ, zero, suc, _-_, _<_}
 use mathlib.Core.Bool.{Bool, true, false}
 use mathlib.Core.List.{List, [], _∷_}
 use mathlib.Core.Path.{_≡_, refl, sym, ap, _∙_}
 use native.Mathlib.Omega.{arith}
 use lib.ListN.{getD, set, length}
 use Rattle.model.specs.Words.{Shape}
+use Rattle.model.specs.Paths.{lastOf}
 use Rattle.model.specs.declared.path.Path.{Path}
 use Rattle.node_test.specs.Test.{limitOf}
 use Rattle.node_test.specs.declared.Limit.{Limit}
 use Rattle.node_test.specs.declared.Limit.the-variants.{Open, Below}
-use Rattle.walk.proofs.Valid.{Top, valid-top}
+use Rattle.walk.specs.Turn.{Turning, turning}
+use Rattle.walk.proofs.Turns.{Held, turnAt}
 use Rattle.walk_limit.specs.Limits.{limit, bounded, rowOf, limits}
-use Rattle.tally.specs.declared.Counts.{Counts}
-use Rattle.tally.specs.declared.Survey.{Survey}
-use Rattle.survey.proofs.Going.{Going}
 
 pub limit-of : (b : Limit) → limit (bounded b) (rowOf b) ≡ b
 unfolding limit bounded rowOf
 limit-of Open = refl
 limit-of (Below r) = refl
-
--- none is missing
-pub many-flags : (fs : List Bool) (rs : List ℕ) → length (limits fs rs) ≤ length fs
-unfolding limits
-many-flags [] rs = zero-le
-many-flags (f ∷ fs) [] = zero-le
-many-flags (f ∷ fs) (r ∷ rs) = omega (arith, many-flags fs rs)
-
-pub many-rows : (fs : List Bool) (rs : List ℕ) → length (limits fs rs) ≤ length rs
-unfolding limits
-many-rows [] rs = zero-le
-many-rows (f ∷ fs) [] = zero-le
-many-rows (f ∷ fs) (r ∷ rs) = omega (arith, many-rows fs rs)
 
 pub get-limits : (fs : List Bool) (rs : List ℕ) (d : ℕ) → d < length (limits fs rs) → getD (limits fs rs) d Open ≡ limit (getD fs d false) (getD rs d 0)
 unfolding limits
@@ -49,7 +35,8 @@ set-limits (f ∷ fs) [] (suc d) b = refl
 set-limits (f ∷ fs) (r ∷ rs) zero b = ap (λ (x : Limit). x ∷ limits fs rs) (limit-of b)
 set-limits (f ∷ fs) (r ∷ rs) (suc d) b = ap (λ (xs : List Limit). limit f r ∷ xs) (set-limits fs rs d b)
 
--- what is next for the last position
-pub next-at : (C : Shape) (P : ℕ) (w : List ℕ) (ends : Bool) (T : Survey) (p : Path) (fs : List Bool) (rs : List ℕ) (firsts : List ℕ) (k : Counts) → Going C P w ends T p (limits fs rs) firsts k → 0 < p .depth
-    → (b : Limit) → b ≡ limit (getD fs (p .depth - 1) false) (getD rs (p .depth - 1) 0) → limitOf b ≡ limitOf (getD (limits fs rs) (p .depth - 1) Open)
-next-at C P w ends T p fs rs firsts k G z b e = ap limitOf (e ∙ sym (get-limits fs rs (p .depth - 1) (omega (arith, G .long-next, valid-top C P w p z (G .valid) .deep))))
+-- the turn at the last position
+pub turn-is : {C : Shape} {P : ℕ} {w : List ℕ} {p : Path} (fs : List Bool) (rs : List ℕ) {firsts : List ℕ} {x : Turning} → Held C P w p (limits fs rs) firsts → 0 < p .depth → (b : Limit)
+    → x ≡ turning C P w (lastOf p .node .0) (lastOf p .index) (limitOf b) → b ≡ limit (getD fs (p .depth - 1) false) (getD rs (p .depth - 1) 0) → x ≡ turnAt C P w p (limits fs rs)
+turn-is {C} {P} {w} {p} fs rs H z b e q =
+    e ∙ ap (λ (y : Limit). turning C P w (lastOf p .node .0) (lastOf p .index) (limitOf y)) (q ∙ sym (get-limits fs rs (p .depth - 1) (omega (arith, H .long-next, H .deep))))

@@ -10,7 +10,7 @@ ghost use Rattle.model.specs.Reading.{rootVisits};
 ghost use Rattle.model.specs.Paths.{entered};
 ghost use Rattle.node.specs.Layout.{Fits, shapeOf};
 ghost use Rattle.node_test.specs.Test.{limitOf};
-ghost use Rattle.walk.specs.Left.{Valid, rest};
+ghost use Rattle.walk.specs.Left.{Valid, below};
 ghost use Rattle.walk.specs.Turn.{outOf};
 ghost use Rattle.tally.specs.Tally.{more, noCounts, tally};
 ghost use Rattle.survey.specs.Ends.{wrongEnd, withEnds};
@@ -27,7 +27,7 @@ use tally;
 use tally::Counts;
 use tally::Survey;
 use walk::turn;
-use walk::turn::Entered;
+use walk::turn::Turn;
 use walk_limit;
 
 // The reading without ends and the one with ends, made in one walk.
@@ -43,7 +43,7 @@ fn look_at_end(l: Layout, s: &[u64], n: NodeNo, next: Limit, wrong: NodeNo) -> N
     ensures { λ r. ⌜ r .0 ≡ wrongEnd (shapeOf l) (l .pool) (now (s .entry)) (n .0) (limitOf next) (wrong .0) ⌝ }
 {
     let h = l.header(s, n);
-    let fits = turn::end_fits(h.height, next, h.end_row_id);
+    let fits = walk_limit::end_fits(h.height, next, h.end_row_id);
     if fits {
         return wrong;
     }
@@ -80,16 +80,10 @@ fn survey_below(
     requires { ⌜ Fits l (now s) ⌝ }
     requires { ⌜ Valid (shapeOf l) (l .pool) (now s) (height (shapeOf l) (now s) (root .0)) (entered (root .0) ∷ []) ⌝ }
     requires { ⌜ first ≡ outOf (shapeOf l) (l .pool) (now s) (height (shapeOf l) (now s) (root .0)) (root .0) ⌝ }
-    ensures nodes { λ r. ⌜ r .nodes ≡ tally (shapeOf l) (now (s .entry)) (rest false (shapeOf l) (l .pool) (now (s .entry)) (height (shapeOf l) (now (s .entry)) (root .0)) (entered (root .0) ∷ [])) start ⌝ }
-    ensures ends { λ r. ⌜ r .ends ≡ withEnds (l .pool) (seen .0) (tally (shapeOf l) (now (s .entry)) (rest true (shapeOf l) (l .pool) (now (s .entry)) (height (shapeOf l) (now (s .entry)) (root .0)) (entered (root .0) ∷ [])) start) ⌝ }
+    ensures nodes { λ r. ⌜ r .nodes ≡ tally (shapeOf l) (now (s .entry)) (below false (shapeOf l) (l .pool) (now (s .entry)) (root .0)) start ⌝ }
+    ensures ends { λ r. ⌜ r .ends ≡ withEnds (l .pool) (seen .0) (tally (shapeOf l) (now (s .entry)) (below true (shapeOf l) (l .pool) (now (s .entry)) (root .0)) start) ⌝ }
 {
-    let mut path = Path {
-        positions: [Position {
-            node: root,
-            index: 0,
-        }; 32],
-        depth: 1,
-    };
+    let mut path = Path::rooted(root);
     let mut bounded = [false; 32];
     let mut rows = [0; 32];
     let mut firsts = [first; 32];
@@ -99,37 +93,19 @@ fn survey_below(
         let depth = path.depth;
         let at = depth - 1;
         let top = path.positions[at];
-        let node = top.node;
-        let index = top.index;
-        let more = turn::has_child(l, s, node, index);
-        if !more {
-            path.depth = at;
-        } else {
-            let out = firsts[at];
-            if out <= index {
-                return both(l, Survey::Unsound(node), wrong);
-            }
-            let next = walk_limit::limit(bounded[at], rows[at]);
-            match turn::enter(l, s, node, index, next) {
-                Entered::Bad(n) => {
-                    return both(l, Survey::Unsound(n), wrong);
-                }
-                Entered::Child(child, beyond, inner) => {
-                    path.positions[at] = Position {
-                        node,
-                        index: index + 1,
-                    };
-                    path.positions[depth] = Position {
-                        node: child,
-                        index: 0,
-                    };
-                    bounded[depth] = walk_limit::is_bounded(beyond);
-                    rows[depth] = walk_limit::row_of(beyond);
-                    firsts[depth] = inner;
-                    path.depth = depth + 1;
-                    counts = tally::count_node(l, s, child, counts);
-                    wrong = look_at_end(l, s, child, beyond, wrong);
-                }
+        let next = walk_limit::limit(bounded[at], rows[at]);
+        match turn::tested(l, s, top, firsts[at], next) {
+            Turn::Up => path.depth = at,
+            Turn::Bad(n) => return both(l, Survey::Unsound(n), wrong),
+            Turn::Down(child, beyond, inner) => {
+                path.positions[at] = top.turned();
+                path.positions[depth] = Position::entered(child);
+                path.depth = depth + 1;
+                bounded[depth] = walk_limit::is_bounded(beyond);
+                rows[depth] = walk_limit::row_of(beyond);
+                firsts[depth] = inner;
+                counts = tally::count_node(l, s, child, counts);
+                wrong = look_at_end(l, s, child, beyond, wrong);
             }
         }
     }

@@ -7,19 +7,15 @@ use mathlib.Core.Logic.{_≢_}
 use native.Mathlib.Omega.{arith}
 use lib.ListN.{getD, set, length, length-set, replicate}
 use lib.Seq.{getD-set-same, getD-set-other}
-use Rattle.model.specs.Paths.{noPosition, stack, trail, lastOf, above, turned, entered}
+use Rattle.model.specs.Paths.{noPosition, stack, trail, lastOf, above, turned, entered, rooted}
 use Rattle.model.specs.declared.path.Position.{Position}
 use Rattle.model.specs.declared.path.Path.{Path}
 use Rattle.model.specs.Words.{Shape, part, height}
-use Rattle.walk.specs.Left.{Valid, left, rest}
+use Rattle.walk.specs.Left.{below, Valid, left}
 use Rattle.walk.proofs.Rest.{left-is}
 use Rattle.model.proofs.Paths.{stack-set, stack-push, stack-turn}
 
--- at node n, just entered
-abbrev pub rooted : ℕ → Path
-rooted n = record { positions = replicate 32 (entered n); depth = 1 }
-
-pub rooted-left : (ends : Bool) (C : Shape) (P : ℕ) (w : List ℕ) (n : ℕ) → Valid C P w (height C w n) (entered n ∷ []) → left ends C P w (rooted n) ≡ rest ends C P w (height C w n) (entered n ∷ [])
+pub rooted-left : (ends : Bool) (C : Shape) (P : ℕ) (w : List ℕ) (n : ℕ) → Valid C P w (height C w n) (entered n ∷ []) → left ends C P w (rooted n) ≡ below ends C P w n
 unfolding stack
 rooted-left ends C P w n v = left-is ends C P w (rooted n) (height C w n) (entered n ∷ []) refl v
 

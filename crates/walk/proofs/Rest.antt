@@ -7,7 +7,7 @@ use native.Mathlib.Omega.{arith}
 use native.Mathlib.Nat.{sub-zero}
 use lib.Dec.{T, ltb, leb, eqb}
 use borrow.Author.Tests.{lt-ltb, le-ltb, ltb-true, ltb-false}
-use Rattle.model.specs.Words.{Shape, pick, part, height, count, end, row, child}
+use Rattle.model.specs.Words.{Shape, pick, part, height, count, start, end, row, child, maxHeight}
 use Rattle.model.specs.Tree.{Node, Limit, Open, Below, Level, pairsFrom, nodeWith, nodeAt, level, next, last, sound, overPairs}
 use Rattle.model.specs.Reading.{Visit, Enter, Leave, Bad, endFits, passes, visits, nextRow}
 use Rattle.model.specs.Paths.{stack, trail, lastOf, above, turned, entered}
@@ -107,3 +107,9 @@ unfolding Valid
 valid-entered ends C P w n g r b st i s v =
     let q = passes-fits ends C w n g r b s in
     record { inside = i; high = q .0; within = zero-le; narrow = q .1; above = v }
+
+-- a root that passes
+pub root-valid : (ends : Bool) (C : Shape) (P : ℕ) (w : List ℕ) (n : ℕ) → height C w n ≤ maxHeight → n < P → passes ends C (height C w n) (nodeAt C w n) (start C w n) Open ≡ true
+    → Valid C P w (height C w n) (entered n ∷ [])
+unfolding Valid
+root-valid ends C P w n h i s = valid-entered ends C P w n (height C w n) (start C w n) Open [] i s (omega arith)

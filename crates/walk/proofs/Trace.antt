@@ -8,7 +8,7 @@ use lib.ListN.{length}
 use lib.Dec.{T}
 use Rattle.model.specs.Words.{Shape, height}
 use Rattle.model.specs.Reading.{Visit, Enter, Leave, Bad, occ}
-use Rattle.model.specs.Paths.{stack, trail, lastOf, above, turned, entered}
+use Rattle.model.specs.Paths.{stack, trail, lastOf, above, turned, entered, rooted}
 use Rattle.model.specs.declared.path.Position.{Position}
 use Rattle.model.specs.declared.path.Path.{Path}
 use Rattle.model.proofs.Tests.{both}
@@ -20,7 +20,7 @@ use Rattle.formed.proofs.Clean.{clean-append}
 use Rattle.formed.proofs.Tally.{left-append, enters-append}
 use Rattle.walk.specs.Left.{rest, left, Valid, Moves, onPath}
 use Rattle.walk.specs.Trace.{Walked}
-use Rattle.walk.proofs.InPlace.{rooted, rooted-left, popped, enteredPath, entered-trail}
+use Rattle.walk.proofs.InPlace.{rooted-left, popped, enteredPath, entered-trail}
 
 module _ {C : Shape} {P : ℕ} {w : List ℕ} {n : ℕ} where
   -- at a node just entered

@@ -14,7 +14,7 @@ use Rattle.model.specs.Words.{Shape, pick, part, height, count, end, row, child
 use Rattle.model.specs.Tree.{Node, nodeAt, sound}
 use Rattle.model.specs.Tree as Tree
 use Rattle.model.specs.Reading.{Visit, Enter, Leave, Bad, endFits, passes, nextRow}
-use Rattle.model.specs.Paths.{noPosition, stack, lastOf, above, turned, entered}
+use Rattle.model.specs.Paths.{noPosition, stack, lastOf, above, turned, entered, rooted}
 use Rattle.model.specs.declared.path.Position.{Position}
 use Rattle.model.specs.declared.path.Path.{Path}
 use Rattle.model.proofs.Tests.{by-test}
@@ -30,7 +30,7 @@ use Rattle.walk.proofs.Rest.{bound-turned, passes-fits}
 use Rattle.walk.proofs.Moves.{far-move, bad-move, enter-move}
 use Rattle.walk.proofs.Tests.{branch, before}
 use Rattle.walk.proofs.Branch.{Went, Barred, left-it, went, barred, step-out, step-in, move-out}
-use Rattle.walk.proofs.InPlace.{rooted, popped, turnedPath, enteredPath, turned-trail, entered-trail, entered-length, entered-above, entered-other, entered-under, entered-turned, entered-last}
+use Rattle.walk.proofs.InPlace.{popped, turnedPath, enteredPath, turned-trail, entered-trail, entered-length, entered-above, entered-other, entered-under, entered-turned, entered-last}
 
 -- what is left gets shorter
 pub falls : {ends : Bool} {C : Shape} {P : ℕ} {w : List ℕ} {p : Path} {v : Visit} {q : Path} → Moves ends C P w p v q → length (left ends C P w q) < length (left ends C P w p)
@@ -117,8 +117,8 @@ module _ {C : Shape} {P : ℕ} {w : List ℕ} {p : Path} {nexts : List Limit} {f
   next-is = bound-turned C w (lastOf p) (above p) ∙ ap (nextRow C w n i) (sym (B .next-is))
 
   -- an unsound node
-  pub turn-bad : (c : ℕ) → bad c ≡ turnAt C P w p nexts → (ends : Bool) → Moves ends C P w p (Bad c) (turnedPath p)
-  turn-bad c e ends =
+  pub turn-bad : {c : ℕ} → bad c ≡ turnAt C P w p nexts → (ends : Bool) → Moves ends C P w p (Bad c) (turnedPath p)
+  turn-bad {c} e ends =
       let k = barred C P w n i b₀ c e in
       let t = turned-trail p z (H .long) (H .deep) in
       ⊎-elim
@@ -129,9 +129,9 @@ module _ {C : Shape} {P : ℕ} {w : List ℕ} {p : Path} {nexts : List Limit} {f
       (k .way)
 
   -- a child is entered
-  module _ (c : ℕ) (b : Limit) (first : ℕ) (e : down c (limitOf b) first ≡ turnAt C P w p nexts) where
-    W : Went C P w n i b₀ c (limitOf b) first
-    W = went C P w n i b₀ c (limitOf b) first e
+  module _ {c : ℕ} {next : Tree.Limit} {first : ℕ} (e : down c next first ≡ turnAt C P w p nexts) where
+    W : Went C P w n i b₀ c next first
+    W = went C P w n i b₀ c next first e
 
     pub room : p .depth < 32
     room = low (W .has)
@@ -149,25 +149,26 @@ module _ {C : Shape} {P : ℕ} {w : List ℕ} {p : Path} {nexts : List Limit} {f
     high : height C w c ≡ height C w n - 1
     high = ap (height C w) (W .number) ∙ fits .0
 
-    pass : (ends x : Bool) → pick ends (endFits (height C w c) (limitOf b) (end C w c)) true ≡ x → passes ends C (height C w n - 1) (nodeAt C w (child C w n i)) (row C w n i) (bound C w (turned (lastOf p) ∷ above p)) ≡ x
+    pass : (ends x : Bool) → pick ends (endFits (height C w c) next (end C w c)) true ≡ x → passes ends C (height C w n - 1) (nodeAt C w (child C w n i)) (row C w n i) (bound C w (turned (lastOf p) ∷ above p)) ≡ x
     pass ends x f =
-        let same : endFits (height C w c) (limitOf b) (end C w c) ≡ endFits (height C w n - 1) (nextRow C w n i b₀) (end C w (child C w n i)) = rw (high, W .beyond, W .number) in
+        let same : endFits (height C w c) next (end C w c) ≡ endFits (height C w n - 1) (nextRow C w n i b₀) (end C w (child C w n i)) = rw (high, W .beyond, W .number) in
         ap (passes ends C (height C w n - 1) (nodeAt C w (child C w n i)) (row C w n i)) next-is
         ∙ by-ends ends C (height C w n - 1) (nodeAt C w (child C w n i)) (row C w n i) (nextRow C w n i b₀) true (W .good)
         ∙ sym (ap (λ (y : Bool). pick ends y true) same) ∙ f
 
     -- in the reading with ends where its end fits
-    pub turn-down : (ends : Bool) → pick ends (endFits (height C w c) (limitOf b) (end C w c)) true ≡ true → Moves ends C P w p (Enter c) (enteredPath p c)
+    pub turn-down : (ends : Bool) → pick ends (endFits (height C w c) next (end C w c)) true ≡ true → Moves ends C P w p (Enter c) (enteredPath p c)
     turn-down ends f =
         subst (λ (x : ℕ). Moves ends C P w p (Enter x) (enteredPath p x)) (sym (W .number))
         (enter-move ends C P w p (H .valid) z (enteredPath p (child C w n i)) (height C w n - 1) (tall (W .has)) (inside (W .has)) (W .range) (pass ends true f) (entered-trail p z (H .long) (child C w n i) room))
 
     -- where it does not
-    pub turn-wrong : endFits (height C w c) (limitOf b) (end C w c) ≡ false → Moves true C P w p (Bad c) (turnedPath p)
+    pub turn-wrong : endFits (height C w c) next (end C w c) ≡ false → Moves true C P w p (Bad c) (turnedPath p)
     turn-wrong f =
         subst (λ (x : ℕ). Moves true C P w p (Bad x) (turnedPath p)) (sym (W .number))
         (bad-move true C P w p (H .valid) z (turnedPath p) (height C w n - 1) (tall (W .has)) (inside (W .has)) (W .range) (pass true false f) (turned-trail p z (H .long) (H .deep)))
 
+  module _ {c : ℕ} (b : Limit) {first : ℕ} (e : down c (limitOf b) first ≡ turnAt C P w p nexts) where
     abbrev After : ℕ → Type 0
     After d = Beside C P w (enteredPath p c .positions) (set nexts (p .depth) b) (set firsts (p .depth) first) d
 
@@ -184,25 +185,25 @@ module _ {C : Shape} {P : ℕ} {w : List ℕ} {p : Path} {nexts : List Limit} {f
     -- beside the child
     new : After (p .depth)
     new =
-        let q = entered-last p z (H .long) c room in
-        let f : first ≡ outOf C P w (height C w c) c = W .out ∙ ap (λ (x : ℕ). outOf C P w (height C w n - 1) x) (sym (W .number)) ∙ ap (λ (x : ℕ). outOf C P w x c) (sym high) in
+        let q = entered-last p z (H .long) c (room e) in
+        let f : first ≡ outOf C P w (height C w c) c = W e .out ∙ ap (λ (x : ℕ). outOf C P w (height C w n - 1) x) (sym (W e .number)) ∙ ap (λ (x : ℕ). outOf C P w x c) (sym (high e)) in
         record {
-          next-is = ap limitOf (getD-set-same nexts (p .depth) b Open (omega (arith, room, H .long-next))) ∙ W .beyond ∙ sym (ap (bound C w) (entered-under p z (H .long) c (H .deep)) ∙ next-is);
-          first-is = getD-set-same firsts (p .depth) first 0 (omega (arith, room, H .long-first)) ∙ f ∙ rw q;
+          next-is = ap limitOf (getD-set-same nexts (p .depth) b Open (omega (arith, room e, H .long-next))) ∙ W e .beyond ∙ sym (ap (bound C w) (entered-under p z (H .long) c (H .deep)) ∙ next-is);
+          first-is = getD-set-same firsts (p .depth) first 0 (omega (arith, room e, H .long-first)) ∙ f ∙ rw q;
           ahead = omega (arith, ap (λ (x : Position). x .index) q);
         }
 
     pub held-down : Held C P w (enteredPath p c) (set nexts (p .depth) b) (set firsts (p .depth) first)
     held-down =
         record {
-          valid = turn-down false refl .valid;
-          deep = omega (arith, room);
+          valid = turn-down e false refl .valid;
+          deep = omega (arith, room e);
           long = entered-length p z (H .long) c;
           long-next = length-set nexts (p .depth) b ∙ H .long-next;
           long-first = length-set firsts (p .depth) first ∙ H .long-first;
           beside = λ d l. ⊎-elim (λ (x : suc d ≡ suc (p .depth)). let y : p .depth ≡ d = omega arith in subst After y new)
               (λ (x : suc d < suc (p .depth)). ⊎-elim
-              (λ (y : d ≡ p .depth - 1). subst After (sym y) (kept (p .depth - 1) (omega arith) (turned (lastOf p)) (entered-turned p z (H .long) c (H .deep)) refl (omega (arith, before C P w (lastOf p) b₀ (getD firsts (p .depth - 1) 0) placed (W .has) (W .range)))))
+              (λ (y : d ≡ p .depth - 1). subst After (sym y) (kept (p .depth - 1) (omega arith) (turned (lastOf p)) (entered-turned p z (H .long) c (H .deep)) refl (omega (arith, before C P w (lastOf p) b₀ (getD firsts (p .depth - 1) 0) placed (W e .has) (W e .range)))))
               (λ (y : d < p .depth - 1). kept d (omega arith) (getD (p .positions) d noPosition) (entered-other p z (H .long) c d y) refl (H .beside d (omega arith) .ahead))
               (eq-or-lt-of-le (omega arith)))
               (eq-or-lt-of-le (omega arith));
@@ -244,7 +245,7 @@ module _ {C : Shape} {P : ℕ} {w : List ℕ} {p : Path} (S : Sure C P w p) (z :
         (λ s. absurd (S .no-bad kid (bad-move false C P w p (S .valid) z (turnedPath p) g hi inside l s t))))
         (λ u. absurd (S .no-bad m (far-move false C P w p (S .valid) z (turnedPath p) g hi inside (ltb-false kid P u) t)))
 
-  module _ (c : ℕ) (e : Down (record { 0 = c }) ≡ stepping C w (lastOf p .node .0) (lastOf p .index)) where
+  module _ {c : ℕ} (e : Down (record { 0 = c }) ≡ stepping C w (lastOf p .node .0) (lastOf p .index)) where
     pub step-room : p .depth < 32
     step-room = below-32 (step-in C w (lastOf p .node .0) (lastOf p .index) c e .0)
 
@@ -274,6 +275,6 @@ module _ {C : Shape} {P : ℕ} {w : List ℕ} {p : Path} (K : Known C P w p) whe
     unfolding clean
     known-up e = after (Leave (lastOf p .node .0)) (popped p) (step-up sure z e) (omega (arith, K .deep)) (K .long) (λ vs t. t)
 
-    pub known-down : (c : ℕ) → Down (record { 0 = c }) ≡ stepping C w (lastOf p .node .0) (lastOf p .index) → Known C P w (enteredPath p c)
+    pub known-down : {c : ℕ} → Down (record { 0 = c }) ≡ stepping C w (lastOf p .node .0) (lastOf p .index) → Known C P w (enteredPath p c)
     unfolding clean
-    known-down c e = after (Enter c) (enteredPath p c) (step-down sure z c e) (omega (arith, step-room sure z c e)) (entered-length p z (K .long) c) (λ vs t. t)
+    known-down {c} e = after (Enter c) (enteredPath p c) (step-down sure z e) (omega (arith, step-room sure z e)) (entered-length p z (K .long) c) (λ vs t. t)

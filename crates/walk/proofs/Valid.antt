@@ -19,6 +19,10 @@ module _ (C : Shape) (P : ℕ) (w : List ℕ) where
   valid-depth l zero h v = omega arith
   valid-depth l (suc d) h v = omega (arith, valid-depth l d (suc h) (v .above))
 
+  pub valid-deep : (p : Path) → ValidPath C P w p → p .depth ≤ 32
+  unfolding ValidPath
+  valid-deep p v = omega (arith, valid-depth (p .positions) (p .depth) (lowest C w (trail p)) v)
+
   -- position d - 1, where the nodes from it on have height h
   pub record Top (l : List Position) (d h : ℕ) : Type 0 where
     pub inside : getD l (d - 1) noPosition .node .0 < P

@@ -7,7 +7,7 @@ use lib.Dec.{leb, ltb, eqb}
 use Rattle.model.specs.Words.{Shape, pick, part, height, count, start, end, row, child}
 use Rattle.model.specs.Tree.{Limit, Open, Below, pairsFrom, nodeAt, level, last, overPairs}
 use Rattle.model.specs.Reading.{Visit, Enter, Leave, Bad, passes, visits, nextRow}
-use Rattle.model.specs.Paths.{stack, trail}
+use Rattle.model.specs.Paths.{stack, trail, entered}
 use Rattle.model.specs.declared.path.Position.{Position}
 use Rattle.model.specs.declared.path.Path.{Path}
 
@@ -24,6 +24,10 @@ rest ends C P w h (p ∷ up) =
     let n = p .node .0 in
     overPairs (visits ends C P h n) (pairsFrom C w (level C w h) n (p .index) (count C w n - p .index)) (last h (end C w n) (bound C w up))
     ++ (Leave n ∷ rest ends C P w (suc h) up)
+
+-- what is left at node n, just entered
+abbrev pub below : Bool → Shape → ℕ → List ℕ → ℕ → List Visit
+below ends C P w n = rest ends C P w (height C w n) (entered n ∷ [])
 
 -- a path's nodes are in the pool, each one higher than the next, at most 32 of them
 unfoldable pub Valid : Shape → ℕ → List ℕ → ℕ → List Position → Type 0

@@ -9,7 +9,7 @@ use Rattle.node.specs.Layout.{shapeOf}
 use Rattle.model.specs.Words.{freeAll}
 use Rattle.model.specs.Reading.{rootNodes}
 use Rattle.model.specs.Release.{releasedWords}
-use Rattle.release_pages.proofs.Taking.{ready}
+use Rattle.reclaim.proofs.Root.{ready}
 use Rattle.destroy.proofs.destroy_tree.Statement.{statement}
 use Rattle.destroy.proofs.destroy_tree.Tie as tie
 
@@ -17,7 +17,10 @@ copy-tree-requires : tie.Need-copy-tree-requires
 copy-tree-requires c κs = search needs
 
 free-first-requires : tie.Need-free-first-requires
-free-first-requires c κs = ready (c .before .before .before .before .before .before .before .before .pre .0)
+free-first-requires c κs =
+    let a = c .before .before .before .before .before .before .before .before .args in
+    let p = c .before .before .before .before .before .before .before .before .pre in
+    ready (shapeOf (a .l)) (a .l .pool) (a .s .now) (a .root .0) (p .0 .inside) (p .0 .header) (p .0 .sound) (a .k) (p .1 .0) (p .0 .room)
 
 set-word-requires : tie.Need-set-word-requires
 set-word-requires c κs = search needs

@@ -20,13 +20,13 @@ Inv-loop l s₀ k path₀ freed₀ s path freed =
 abbrev μ-loop : tie.MeasureT-loop
 μ-loop l s₀ k path₀ freed₀ s path freed = length (left false (shapeOf l) (l .pool) s₀ path)
 
-entered-requires : tie.Need-entered-requires Inv-loop μ-loop
-entered-requires c κs =
+rooted-requires : tie.Need-rooted-requires Inv-loop μ-loop
+rooted-requires c κs =
     search needs
 
 loop-holds : tie.Need-loop-holds Inv-loop μ-loop
 loop-holds c =
-    rw (c .entered .ensures) (start-freeing (shapeOf (c .before .before .args .l)) (c .before .before .args .l .pool) (c .before .before .args .s .now) (c .before .before .args .root .0) (c .before .before .args .k) (c .before .before .pre))
+    rw (c .rooted .ensures) (start-freeing (shapeOf (c .before .before .args .l)) (c .before .before .args .l .pool) (c .before .before .args .s .now) (c .before .before .args .root .0) (c .before .before .args .k) (c .before .before .pre))
 
 sub-at : tie.Need-sub-at Inv-loop μ-loop
 sub-at c =
@@ -113,12 +113,12 @@ element-set-from-path c =
     let z = some-left f l in
     omega (arith, f .deep, f .long)
 
-entered-requires-2 : tie.Need-entered-requires-2 Inv-loop μ-loop
-entered-requires-2 c κs =
+entered-requires : tie.Need-entered-requires Inv-loop μ-loop
+entered-requires c κs =
     search needs
 
-mul-t26 : tie.Need-mul-t26 Inv-loop μ-loop
-mul-t26 c =
+mul-t25 : tie.Need-mul-t25 Inv-loop μ-loop
+mul-t25 c =
     let f = c .before .before .before .before .before .before .before .before .before .loop .inv in
     let l = c .before .before .before .before .before .before .before .before .loop-test .taken in
     let z = some-left f l in
@@ -145,7 +145,7 @@ loop-less-2 c =
     let l = c .before .before .before .before .before .before .before .before .loop-test .taken in
     let z = some-left f l in
     let e = same-step f z _ (sym (c .before .before .before .child .given .1) ∙ c .before .before .before .before .before .untested .ensures) in
-    rw (c .entered2 .ensures, c .before .turned .ensures) (less-in f z l _ e)
+    rw (c .entered .ensures, c .before .turned .ensures) (less-in f z l _ e)
 
 loop-again-2 : tie.Need-loop-again-2 Inv-loop μ-loop
 loop-again-2 c =
@@ -153,7 +153,7 @@ loop-again-2 c =
     let l = c .before .before .before .before .before .before .before .before .loop-test .taken in
     let z = some-left f l in
     let e = same-step f z _ (sym (c .before .before .before .child .given .1) ∙ c .before .before .before .before .before .untested .ensures) in
-    rw (c .entered2 .ensures, c .before .turned .ensures) (goes-in f z l _ e)
+    rw (c .entered .ensures, c .before .turned .ensures) (goes-in f z l _ e)
 
 same-length : tie.Need-same-length Inv-loop μ-loop
 same-length c =
@@ -161,7 +161,7 @@ same-length c =
 
 returns : tie.Need-returns Inv-loop μ-loop
 returns c =
-    rw (c .before .before .entered .ensures) at (enough (c .before .loop .inv) (c .loop-test .left))
+    rw (c .before .before .rooted .ensures) at (enough (c .before .loop .inv) (c .loop-test .left))
 
 pub free-first-spec : {M : Type 1} → statement M
 free-first-spec =
@@ -169,7 +169,7 @@ free-first-spec =
     (tie.spec
     Inv-loop
     μ-loop
-    entered-requires
+    rooted-requires
     loop-holds
     sub-at
     mul-top
@@ -184,8 +184,8 @@ free-first-spec =
     turned-requires
     mul-path
     element-set-from-path
-    entered-requires-2
-    mul-t26
+    entered-requires
+    mul-t25
     element-set-from-path-2
     add-path
     loop-less-2

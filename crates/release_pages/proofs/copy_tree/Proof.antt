@@ -7,9 +7,9 @@ use Rattle.node.specs.Layout.{shapeOf}
 use Rattle.model.specs.Words.{fill}
 use Rattle.model.specs.Reading.{pageIds, rootEntries}
 use Rattle.model.specs.Paths.{lastOf}
-use Rattle.walk.specs.Left.{left}
-use Rattle.reclaim.proofs.Freeing.{last-top, inside, deep}
 use Rattle.model.proofs.Fill.{length-fill}
+use Rattle.walk.specs.Left.{left}
+use Rattle.walk.proofs.Turns.{sure, at-top, step-room, step-short}
 use Rattle.release_pages.proofs.Taking.{Taking, start-taking, all-taken, leaf-room, takes-out, takes-in}
 use Rattle.release_pages.proofs.copy_tree.Statement.{statement}
 use Rattle.release_pages.proofs.copy_tree.Tie as tie
@@ -28,64 +28,62 @@ sub-at : tie.Need-sub-at Inv-loop μ-loop
 sub-at c = search needs
 
 mul-top : tie.Need-mul-top Inv-loop μ-loop
-mul-top c = omega (arith, last-top (c .before .loop .inv .0 .walk) (c .loop-test .taken) .deep)
+mul-top c = search needs
 
 element-copy-out-top : tie.Need-element-copy-out-top Inv-loop μ-loop
-element-copy-out-top c = omega (arith, last-top (c .before .loop .inv .0 .walk) (c .loop-test .taken) .deep)
+element-copy-out-top c = search needs
 
-has-child-requires : tie.Need-has-child-requires Inv-loop μ-loop
-has-child-requires c κs = (c .before .before .before .loop .inv .0 .walk .header, last-top (c .before .before .before .loop .inv .0 .walk) (c .before .before .loop-test .taken) .inside)
+untested-requires : tie.Need-untested-requires Inv-loop μ-loop
+untested-requires c κs = let t = at-top (sure (c .before .before .loop .inv .0 .walk)) (c .before .loop-test .taken) in (c .before .before .before .before .before .pre .0 .header, (t .inside, t .narrow))
 
-child-requires : tie.Need-child-requires Inv-loop μ-loop
-child-requires c κs =
-    let f = c .before .before .before .before .before .loop .inv .0 .walk in
-    let z = c .before .before .before .before .loop-test .taken in
-    let e = sym (c .before .has-child .ensures) ∙ c .if1 .taken in
-    let t = last-top f z in
-    (f .header, (t .inside, omega (arith, inside f z e, t .narrow)))
-
-add-t21 : tie.Need-add-t21 Inv-loop μ-loop
-add-t21 c =
-    let f = c .before .before .before .before .before .before .loop .inv .0 .walk in
-    let z = c .before .before .before .before .before .loop-test .taken in
-    let e = sym (c .before .before .has-child .ensures) ∙ c .before .if1 .taken in
-    omega (arith, inside f z e, last-top f z .narrow, f .header .cap-high)
-
-mul-path : tie.Need-mul-path Inv-loop μ-loop
-mul-path c = omega (arith, last-top (c .before .before .before .before .before .before .loop .inv .0 .walk) (c .before .before .before .before .before .loop-test .taken) .deep)
-
-element-set-from-path : tie.Need-element-set-from-path Inv-loop μ-loop
-element-set-from-path c = omega (arith, last-top (c .before .before .before .before .before .before .loop .inv .0 .walk) (c .before .before .before .before .before .loop-test .taken) .deep)
-
-mul-t23 : tie.Need-mul-t23 Inv-loop μ-loop
-mul-t23 c = omega (arith, last-top (c .before .before .before .before .before .before .loop .inv .0 .walk) (c .before .before .before .before .before .loop-test .taken) .deep)
-
-element-set-from-path-2 : tie.Need-element-set-from-path-2 Inv-loop μ-loop
-element-set-from-path-2 c = deep (c .before .before .before .before .before .before .loop .inv .0 .walk) (c .before .before .before .before .before .loop-test .taken) (sym (c .before .before .has-child .ensures) ∙ c .before .if1 .taken)
-
-add-path : tie.Need-add-path Inv-loop μ-loop
-add-path c = omega (arith, last-top (c .before .before .before .before .before .before .loop .inv .0 .walk) (c .before .before .before .before .before .loop-test .taken) .deep)
-
-loop-less : tie.Need-loop-less Inv-loop μ-loop
-loop-less c = rw (c .child .ensures) (takes-in (c .before .before .before .before .before .before .loop .inv .0) (c .before .before .before .before .before .loop-test .taken) (sym (c .before .before .has-child .ensures) ∙ c .before .if1 .taken) .less)
-
-loop-again : tie.Need-loop-again Inv-loop μ-loop
-loop-again c = rw (c .child .ensures) (takes-in (c .before .before .before .before .before .before .loop .inv .0) (c .before .before .before .before .before .loop-test .taken) (sym (c .before .before .has-child .ensures) ∙ c .before .if1 .taken) .taking, c .before .before .before .before .before .before .loop .inv .1)
+enum-told : tie.Need-enum-told Inv-loop μ-loop
+enum-told c = search needs
 
 copy-leaf-requires : tie.Need-copy-leaf-requires Inv-loop μ-loop
 copy-leaf-requires c κs =
-    let f = c .before .before .before .before .before .before .loop .inv .0 .walk in
-    let z = c .before .before .before .before .before .loop-test .taken in
-    let t = last-top f z in
-    (f .header, (t .inside, t .narrow, leaf-room (c .before .before .before .before .before .before .loop .inv .0) z (sym (c .before .before .has-child .ensures) ∙ c .before .if1 .left)))
+    let x = c .before .before .before .before .before .before .before .loop .inv .0 in
+    let z = c .before .before .before .before .before .before .loop-test .taken in
+    let t = at-top (sure (x .walk)) z in
+    (c .before .before .before .before .before .before .before .before .before .before .pre .0 .header, (t .inside, t .narrow, leaf-room x z (sym (c .before .before .enum-told .given .1) ∙ c .before .before .before .before .untested .ensures)))
+
+loop-less : tie.Need-loop-less Inv-loop μ-loop
+loop-less c = takes-out (c .before .before .before .before .before .before .before .before .before .before .loop .inv .0) (c .before .before .before .before .before .before .before .before .before .loop-test .taken) (sym (c .before .before .before .before .before .enum-told .given .1) ∙ c .before .before .before .before .before .before .before .untested .ensures) .less
+
+loop-again : tie.Need-loop-again Inv-loop μ-loop
+loop-again c =
+    let x = c .before .before .before .before .before .before .before .before .before .before .loop in
+    rw (c .before .before .copy-leaf .ensures .0, c .before .before .copy-leaf .ensures .1)
+    (takes-out (x .inv .0) (c .before .before .before .before .before .before .before .before .before .loop-test .taken) (sym (c .before .before .before .before .before .enum-told .given .1) ∙ c .before .before .before .before .before .before .before .untested .ensures) .taking, length-fill (x .pages) (x .place) _ ∙ x .inv .1)
+
+enum-known-child : tie.Need-enum-known-child Inv-loop μ-loop
+enum-known-child c = search needs
+
+turned-requires : tie.Need-turned-requires Inv-loop μ-loop
+turned-requires c κs = omega (arith, step-short (sure (c .before .before .before .before .before .before .loop .inv .0 .walk)) (c .before .before .before .before .before .loop-test .taken) (sym (c .before .child .given .1) ∙ c .before .before .before .untested .ensures), c .before .before .before .before .before .before .before .before .before .pre .0 .header .cap-high)
+
+mul-path : tie.Need-mul-path Inv-loop μ-loop
+mul-path c = search needs
+
+element-set-from-path : tie.Need-element-set-from-path Inv-loop μ-loop
+element-set-from-path c = search needs
+
+entered-requires : tie.Need-entered-requires Inv-loop μ-loop
+entered-requires c κs = search needs
+
+mul-t23 : tie.Need-mul-t23 Inv-loop μ-loop
+mul-t23 c = search needs
+
+element-set-from-path-2 : tie.Need-element-set-from-path-2 Inv-loop μ-loop
+element-set-from-path-2 c = step-room (sure (c .before .before .before .before .before .before .before .before .loop .inv .0 .walk)) (c .before .before .before .before .before .before .before .loop-test .taken) (sym (c .before .before .before .child .given .1) ∙ c .before .before .before .before .before .untested .ensures)
+
+add-path : tie.Need-add-path Inv-loop μ-loop
+add-path c = search needs
 
 loop-less-2 : tie.Need-loop-less-2 Inv-loop μ-loop
-loop-less-2 c = takes-out (c .before .before .before .before .before .before .before .before .before .loop .inv .0) (c .before .before .before .before .before .before .before .before .loop-test .taken) (sym (c .before .before .before .before .before .has-child .ensures) ∙ c .before .before .before .before .if1 .left) .less
+loop-less-2 c = rw (c .entered .ensures, c .before .turned .ensures) (takes-in (c .before .before .before .before .before .before .before .before .loop .inv .0) (c .before .before .before .before .before .before .before .loop-test .taken) (sym (c .before .before .before .child .given .1) ∙ c .before .before .before .before .before .untested .ensures) .less)
 
 loop-again-2 : tie.Need-loop-again-2 Inv-loop μ-loop
-loop-again-2 c =
-    rw (c .before .before .copy-leaf .ensures .0, c .before .before .copy-leaf .ensures .1)
-    (takes-out (c .before .before .before .before .before .before .before .before .before .loop .inv .0) (c .before .before .before .before .before .before .before .before .loop-test .taken) (sym (c .before .before .before .before .before .has-child .ensures) ∙ c .before .before .before .before .if1 .left) .taking, length-fill (c .before .before .before .before .before .before .before .before .before .loop .pages) (c .before .before .before .before .before .before .before .before .before .loop .place) _ ∙ c .before .before .before .before .before .before .before .before .before .loop .inv .1)
+loop-again-2 c = rw (c .entered .ensures, c .before .turned .ensures) (takes-in (c .before .before .before .before .before .before .before .before .loop .inv .0) (c .before .before .before .before .before .before .before .loop-test .taken) (sym (c .before .before .before .child .given .1) ∙ c .before .before .before .before .before .untested .ensures) .taking, c .before .before .before .before .before .before .before .before .loop .inv .1)
 
 same-length : tie.Need-same-length Inv-loop μ-loop
 same-length c = c .before .loop .inv .1
@@ -96,25 +94,4 @@ returns c = all-taken (c .before .loop .inv .0) (omega (arith, c .loop-test .lef
 pub copy-tree-spec : {M : Type 1} → statement M
 copy-tree-spec =
     tie.close
-    (tie.spec
-    Inv-loop
-    μ-loop
-    loop-holds
-    sub-at
-    mul-top
-    element-copy-out-top
-    has-child-requires
-    child-requires
-    add-t21
-    mul-path
-    element-set-from-path
-    mul-t23
-    element-set-from-path-2
-    add-path
-    loop-less
-    loop-again
-    copy-leaf-requires
-    loop-less-2
-    loop-again-2
-    same-length
-    returns)
+    (tie.spec Inv-loop μ-loop loop-holds sub-at mul-top element-copy-out-top untested-requires enum-told copy-leaf-requires loop-less loop-again enum-known-child turned-requires mul-path element-set-from-path entered-requires mul-t23 element-set-from-path-2 add-path loop-less-2 loop-again-2 same-length returns)

@@ -12,11 +12,12 @@ use Rattle.model.specs.declared.node.RowPageIndexNodeHeader.{RowPageIndexNodeHe
 use Rattle.formed.proofs.Rooted.{empty-of}
 use Rattle.node_test.specs.Test.{nodeTest}
 use Rattle.walk.proofs.Tests.{pass-sound, pass-unsound}
-use Rattle.walk.proofs.Rest.{passes-fits}
+use Rattle.walk.proofs.Rest.{passes-fits, root-valid}
+use Rattle.walk.proofs.Turns.{by-ends}
 use Rattle.tally.specs.Tally.{noCounts}
 use Rattle.tally.specs.declared.Survey.the-variants.{Counted}
-use Rattle.survey.proofs.FromRoot.{from-empty, from-high, from-bad, from-good, root-valid}
-use Rattle.survey.proofs.WithEnds.{bad-too, with-none, from-both}
+use Rattle.survey.proofs.FromRoot.{from-empty, from-high, from-bad, from-good}
+use Rattle.survey.proofs.WithEnds.{with-none, from-both}
 use Rattle.survey.proofs.survey_both.Statement.{statement}
 use Rattle.survey.proofs.survey_both.Tie as tie
 
@@ -89,7 +90,7 @@ returns-3 c =
     let e = sym (c .before .before .before .before .before .before .before .before .is-empty-root .ensures) ∙ c .before .before .before .before .before .before .before .if1 .left in
     let hi : leb (height (shapeOf (a .l)) (a .s .now) (a .root .0)) maxHeight ≡ true = sym (ap (λ (h : RowPageIndexNodeHeader). leb (h .height) maxHeight) (c .before .before .before .before .before .before .header .ensures)) ∙ sym (c .before .before .before .before .before .is-in-height .ensures) ∙ not-false _ (c .before .before .before .before .if2 .left) in
     let s = pass-unsound (shapeOf (a .l)) (a .l .pool) (a .s .now) (a .root .0) (height (shapeOf (a .l)) (a .s .now) (a .root .0)) (start (shapeOf (a .l)) (a .s .now) (a .root .0)) Open (sym (c .before .before .before .test-node .ensures ∙ ap (λ (h : RowPageIndexNodeHeader). nodeTest (shapeOf (a .l)) (a .l .pool) (a .s .now) (a .root .0) (h .height) (h .«start_row_id» .0) Open) (c .before .before .before .before .before .before .header .ensures)) ∙ c .before .enum-told .given .1) in
-    let t = bad-too (shapeOf (a .l)) (height (shapeOf (a .l)) (a .s .now) (a .root .0)) (nodeAt (shapeOf (a .l)) (a .s .now) (a .root .0)) (start (shapeOf (a .l)) (a .s .now) (a .root .0)) Open s in
+    let t = by-ends true (shapeOf (a .l)) (height (shapeOf (a .l)) (a .s .now) (a .root .0)) (nodeAt (shapeOf (a .l)) (a .s .now) (a .root .0)) (start (shapeOf (a .l)) (a .s .now) (a .root .0)) Open false s in
     (c .both3 .ensures .0 ∙ sym (from-bad false (shapeOf (a .l)) (a .l .pool) (a .s .now) (a .root .0) noCounts e hi (c .before .before .before .before .before .before .before .before .before .before .pre .1) s), c .both3 .ensures .1 ∙ with-none _ _ _ (omega arith) ∙ sym (from-bad true (shapeOf (a .l)) (a .l .pool) (a .s .now) (a .root .0) noCounts e hi (c .before .before .before .before .before .before .before .before .before .before .pre .1) t))
 
 returns-4 : tie.Need-returns-4
