@@ -16,7 +16,7 @@ use Rattle.model.proofs.Words.{header-at}
 use Rattle.model.proofs.Writes.{copied-length, freed-length, freed-count}
 use Rattle.cut.proofs.Trim.{trimmed-header, trimmed-node}
 use Rattle.node_chain.specs.Chain.{listed}
-use Rattle.trim.specs.Picks.{lostAt, picks, Apart, Trims}
+use Rattle.boundary.specs.Trims.{trimsFrom, Apart, Trims}
 
 module _ {A : Type 0} (f : ℕ → A) (i n : ℕ) where
   pub turn : i < n → f (n - i) ≡ f (suc (n - (i + 1)))
@@ -61,10 +61,10 @@ pub freed-header : (C : Shape) (P : ℕ) (w : List ℕ) → Header (C .cap) P w 
 freed-header C P w hd n = header-at (C .cap) P w (freed C w n) hd (freed-length C w n)
 
 -- the node at position i, of d positions
-pub pick-turn : (l : List Position) (d i : ℕ) → i < d → picks l d i (d - i) ≡ (getD l i noPosition .node .0, lostAt d i (getD l i noPosition .index)) ∷ picks l d (i + 1) (d - (i + 1))
-unfolding picks
-pick-turn l d i h = turn (picks l d i) i d h
+pub trims-turn : (l : List Position) (d i : ℕ) → i < d → trimsFrom l i (d - i) ≡ (getD l i noPosition .node .0, getD l i noPosition .index) ∷ trimsFrom l (i + 1) (d - (i + 1))
+unfolding trimsFrom
+trims-turn l d i h = turn (trimsFrom l i) i d h
 
-pub pick-stop : (l : List Position) (d i : ℕ) → d ≤ i → picks l d i (d - i) ≡ []
-unfolding picks
-pick-stop l d i h = stop (picks l d i) i d h
+pub trims-stop : (l : List Position) (d i : ℕ) → d ≤ i → trimsFrom l i (d - i) ≡ []
+unfolding trimsFrom
+trims-stop l d i h = stop (trimsFrom l i) i d h

@@ -8,7 +8,8 @@ ghost use Rattle.model.specs.Words.{count, freeAll, freeCount};
 ghost use Rattle.model.specs.Prune.{copyAll, trimAll, trimmed};
 ghost use Rattle.node.specs.Layout.{Fits, shapeOf};
 ghost use Rattle.node_chain.specs.Chain.{listed};
-ghost use Rattle.trim.specs.Picks.{AllIn, Ahead, Trims, lostAt, picks};
+ghost use Rattle.boundary.specs.Trims.{Trims, trimsOf};
+ghost use Rattle.trim.specs.Nodes.{AllIn};
 use model::id::NodeNo;
 use model::id::RowID;
 use model::path::Path;
@@ -31,31 +32,18 @@ fn trim_node(l: Layout, s: &mut [u64], n: NodeNo, k: u64, end: RowID)
     write::put(l, s, n, l.row_place(0), end.0);
 }
 
-// How many entries the node of position i loses: all but the last position stand after the entry that leads down.
-pub fn lost(depth: usize, i: usize, index: u64) -> u64
-    requires { ⌜ (1 ≤ index) × (i < depth) × (depth ≤ 32) ⌝ }
-    ensures { λ r. ⌜ r ≡ lostAt depth i index ⌝ }
-{
-    if i + 1 < depth {
-        return index - 1;
-    }
-    index
-}
-
-// The nodes of an edge, the top first.
+// The nodes of an edge, the top first, each by its entries that go.
 pub fn trim_all(l: Layout, s: &mut [u64], edge: Path, end: RowID)
     requires { ⌜ Fits l (now s) ⌝ }
-    requires { ⌜ (edge .depth ≤ 32) × (length (edge .positions) ≡ 32) × Ahead edge × Trims (shapeOf l) (l .pool) (now s) (picks (edge .positions) (edge .depth) 0 (edge .depth)) ⌝ }
-    ensures { λ _. ⌜ now (s .exit) ≡ trimAll (shapeOf l) (now (s .entry)) (end .0) (picks (edge .positions) (edge .depth) 0 (edge .depth)) ⌝ }
+    requires { ⌜ (edge .depth ≤ 32) × (length (edge .positions) ≡ 32) × Trims (shapeOf l) (l .pool) (now s) (trimsOf edge) ⌝ }
+    ensures { λ _. ⌜ now (s .exit) ≡ trimAll (shapeOf l) (now (s .entry)) (end .0) (trimsOf edge) ⌝ }
 {
     let depth = edge.depth;
     let mut i: usize = 0;
     while i < depth {
         let p = edge.positions[i];
         let node = p.node;
-        let index = p.index;
-        let k = lost(depth, i, index);
-        trim_node(l, s, node, k, end);
+        trim_node(l, s, node, p.index, end);
         i += 1;
     }
 }

@@ -7,7 +7,7 @@ use Rattle.model.specs.Prune.{copyAll}
 use Rattle.node.specs.Layout.{shapeOf, Fits}
 use Rattle.model.proofs.Words.{header-at}
 use Rattle.node_chain.specs.Chain.{listed}
-use Rattle.trim.specs.Picks.{AllIn}
+use Rattle.trim.specs.Nodes.{AllIn}
 use Rattle.trim.proofs.Turns.{turn, stop, copied-header}
 use Rattle.trim.proofs.copy_all.Statement.{statement}
 use Rattle.trim.proofs.copy_all.Tie as tie

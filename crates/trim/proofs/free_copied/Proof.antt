@@ -8,7 +8,7 @@ use Rattle.model.proofs.Writes.{freed-count}
 use lib.ListN.{getD}
 use Rattle.node.specs.Layout.{shapeOf, Fits}
 use Rattle.node_chain.specs.Chain.{listed}
-use Rattle.trim.specs.Picks.{AllIn}
+use Rattle.trim.specs.Nodes.{AllIn}
 use Rattle.trim.proofs.Turns.{free-last, freed-header}
 use Rattle.trim.proofs.free_copied.Statement.{statement}
 use Rattle.trim.proofs.free_copied.Tie as tie
