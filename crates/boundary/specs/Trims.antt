@@ -19,6 +19,10 @@ trimsFrom l i (suc m) = (getD l i noPosition .node .0, getD l i noPosition .inde
 abbrev pub trimsOf : Path → List (ℕ × ℕ)
 trimsOf edge = trimsFrom (edge .positions) 0 (edge .depth)
 
+-- below them no entries go, on d levels in all
+abbrev pub NoneBelow : Path → ℕ → Type 0
+NoneBelow edge d = (i : ℕ) → edge .depth ≤ i → i < d → getD (edge .positions) i noPosition .index ≡ 0
+
 -- no node of a list is n
 unfoldable pub Apart : ℕ → List (ℕ × ℕ) → Type 0
 Apart n [] = Unit {0}

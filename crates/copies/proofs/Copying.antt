@@ -9,7 +9,7 @@ use lib.ListN.{getD, set, length, length-set, replicate}
 use lib.Seq.{getD-set-same, getD-set-other}
 use mathlib.Core.Logic.{⊎-elim}
 use lib.Dec.{T, leb, ltb, eqb, eqb→eq}
-use borrow.Author.Tests.{lt-ltb, le-ltb, eq-eqb, ne-eqb, ltb-true, ltb-false, le-leb, lt-leb}
+use borrow.Author.Tests.{lt-ltb, le-ltb, eq-eqb, ne-eqb, ltb-true, ltb-false, eqb-true, eqb-false}
 use Rattle.model.specs.Words.{Shape, pick, part, height, count, start, end, row, child}
 use Rattle.model.specs.Tree.{Node, Limit, Open, Level, pairsFrom, nodeAt, level, endSound, sound}
 use Rattle.model.specs.Cut.{cutPairs, cut, trimsPairs, trims, kept}
@@ -23,10 +23,12 @@ use Rattle.cut.proofs.Rests.{cut-length}
 use Rattle.cut.proofs.Path.{SpotAt, spot}
 use Rattle.node_chain.specs.Chain.{listed}
 use Rattle.model.specs.declared.id.NodeNo.{NodeNo}
-use Rattle.trim.specs.Picks.{AllIn, lostAt, picks}
+use Rattle.boundary.specs.Trims.{trimsFrom}
+use Rattle.trim.specs.Nodes.{AllIn}
 use Rattle.node_chain.proofs.Links.{listed-set}
-use Rattle.trim.proofs.Turns.{pick-turn, pick-stop}
-use Rattle.copies.specs.Copied.{goneAt}
+use Rattle.trim.proofs.Turns.{trims-turn, trims-stop}
+use Rattle.copies.specs.declared.Copy.the-variants.{None, Child, Bad}
+use Rattle.copies.specs.Copied.{copyAt}
 
 -- nodes found before
 unfoldable pub beforeAll : List ℕ → Copies → Copies
@@ -68,19 +70,19 @@ unfolding others
 others-cons t ts = refl
 
 -- what the positions of an edge say
-pub lost-at : (l : List Position) (d i : ℕ) → lostOf (picks l d i (d - i)) ≡ goneAt d i (getD l i noPosition .index)
-unfolding lostOf goneAt
-lost-at l d i =
+pub lost-at : (l : List Position) (d i : ℕ) → (d ≤ i → getD l i noPosition .index ≡ 0) → lostOf (trimsFrom l i (d - i)) ≡ getD l i noPosition .index
+unfolding lostOf
+lost-at l d i z =
     by-test (ltb i d)
-    (λ t. rw (lt-leb d i (ltb-true i d t), pick-turn l d i (ltb-true i d t)))
-    (λ t. rw (le-leb d i (ltb-false i d t), pick-stop l d i (ltb-false i d t)))
+    (λ t. rw (trims-turn l d i (ltb-true i d t)))
+    (λ t. rw (trims-stop l d i (ltb-false i d t)) (sym (z (ltb-false i d t))))
 
-pub others-at : (l : List Position) (d i : ℕ) → others (picks l d i (d - i)) ≡ picks l d (i + 1) (d - (i + 1))
+pub others-at : (l : List Position) (d i : ℕ) → others (trimsFrom l i (d - i)) ≡ trimsFrom l (i + 1) (d - (i + 1))
 unfolding others
 others-at l d i =
     by-test (ltb i d)
-    (λ t. rw (pick-turn l d i (ltb-true i d t)))
-    (λ t. rw (pick-stop l d i (ltb-false i d t)) (sym (pick-stop l d (i + 1) (omega (arith, ltb-false i d t)))))
+    (λ t. rw (trims-turn l d i (ltb-true i d t)))
+    (λ t. rw (trims-stop l d i (ltb-false i d t)) (sym (trims-stop l d (i + 1) (omega (arith, ltb-false i d t)))))
 
 module _ (C : Shape) (P : ℕ) (w : List ℕ) (e : ℕ) where
   -- how many entries of node n stay
@@ -154,7 +156,7 @@ first-pair C w n zero r z t = absurd t
 first-pair C w n (suc c) r z t = (omega arith, eqb→eq (row C w n 0) r (and-l (eqb (row C w n 0) r) (rises z (row C w n 0) (pairsFrom C w (λ (x : ℕ). x) n (0 + 1) c)) t))
 
 -- The loop -----------------------------------------------------------------------------------------------
-module _ (C : Shape) (P : ℕ) (w : List ℕ) (root : ℕ) (l : List Position) (d : ℕ) where
+module _ (C : Shape) (P : ℕ) (w : List ℕ) (root : ℕ) (l : List Position) (d : ℕ) (low : height C w root ≤ 31) (none : (i : ℕ) → d ≤ i → i < height C w root + 1 → getD l i noPosition .index ≡ 0) where
   abbrev whole : ℕ → List (ℕ × ℕ)
   whole e = trims (suc (height C w root)) e (level C w (suc (height C w root)) root) (start C w root)
 
@@ -165,10 +167,10 @@ module _ (C : Shape) (P : ℕ) (w : List ℕ) (root : ℕ) (l : List Position) (
   pub record Copying (nodes : List NodeNo) (n h i : ℕ) : Type 0 where
     pub inside : n < P
     pub good : sound C h (nodeAt C w n) (start C w n) Open ≡ true
-    pub high : h + i ≤ 31
+    pub high : h + i ≡ height C w root
     pub long : length nodes ≡ 32
     pub found : AllIn P nodes i
-    pub told : (e : ℕ) → whole e ≡ picks l d 0 d → (trims (suc h) e (level C w (suc h) n) (start C w n) ≡ picks l d i (d - i)) × (all e ≡ beforeAll (listed nodes 0 i) (copiesFrom C P h e (level C w (suc h) n) (start C w n)))
+    pub told : (e : ℕ) → whole e ≡ trimsFrom l 0 d → (trims (suc h) e (level C w (suc h) n) (start C w n) ≡ trimsFrom l i (d - i)) × (all e ≡ beforeAll (listed nodes 0 i) (copiesFrom C P h e (level C w (suc h) n) (start C w n)))
 
   module _ (nodes : List NodeNo) (n h i : ℕ) (G : Copying nodes n h i) where
     own : (count C w n ≤ C .cap) × (row C w n 0 ≡ start C w n) × (1 ≤ count C w n)
@@ -184,10 +186,10 @@ module _ (C : Shape) (P : ℕ) (w : List ℕ) (root : ℕ) (l : List Position) (
     some = own .2
 
     -- how many entries stay, by the positions
-    keeps : (e : ℕ) → whole e ≡ picks l d 0 d → kept h e (level C w (suc h) n) (start C w n) ≡ count C w n - goneAt d i (getD l i noPosition .index)
-    keeps e q = kept-is C P w e h n ∙ ap (λ (ts : List (ℕ × ℕ)). count C w n - lostOf ts) (G .told e q .0) ∙ ap (λ (j : ℕ). count C w n - j) (lost-at l d i)
+    keeps : (e : ℕ) → whole e ≡ trimsFrom l 0 d → kept h e (level C w (suc h) n) (start C w n) ≡ count C w n - getD l i noPosition .index
+    keeps e q = kept-is C P w e h n ∙ ap (λ (ts : List (ℕ × ℕ)). count C w n - lostOf ts) (G .told e q .0) ∙ ap (λ (j : ℕ). count C w n - j) (lost-at l d i (λ m. none i m (omega (arith, G .high))))
 
-    pub ends : h ≤ 0 → (e : ℕ) → whole e ≡ picks l d 0 d → copies (listed nodes 0 i) ≡ all e
+    pub ends : h ≤ 0 → (e : ℕ) → whole e ≡ trimsFrom l 0 d → copies (listed nodes 0 i) ≡ all e
     ends z e q =
         let y : h ≡ 0 = omega arith in
         sym (G .told e q .1 ∙ ap (λ (j : ℕ). beforeAll (listed nodes 0 i) (copiesFrom C P j e (level C w (suc j) n) (start C w n))) y ∙ ap (beforeAll (listed nodes 0 i)) (at-leaf C P w e n) ∙ all-copies (listed nodes 0 i))
@@ -197,24 +199,24 @@ module _ (C : Shape) (P : ℕ) (w : List ℕ) (root : ℕ) (l : List Position) (
       up = omega arith
 
       -- in the form of a branch
-      branch : (e : ℕ) → whole e ≡ picks l d 0 d → all e ≡ beforeAll (listed nodes 0 i) (copiesFrom C P (suc (h - 1)) e (level C w (suc (suc (h - 1))) n) (start C w n))
+      branch : (e : ℕ) → whole e ≡ trimsFrom l 0 d → all e ≡ beforeAll (listed nodes 0 i) (copiesFrom C P (suc (h - 1)) e (level C w (suc (suc (h - 1))) n) (start C w n))
       branch e q = G .told e q .1 ∙ ap (λ (j : ℕ). beforeAll (listed nodes 0 i) (copiesFrom C P j e (level C w (suc j) n) (start C w n))) up
 
-      stays : (e : ℕ) → whole e ≡ picks l d 0 d → kept (suc (h - 1)) e (level C w (suc (suc (h - 1))) n) (start C w n) ≡ count C w n - goneAt d i (getD l i noPosition .index)
+      stays : (e : ℕ) → whole e ≡ trimsFrom l 0 d → kept (suc (h - 1)) e (level C w (suc (suc (h - 1))) n) (start C w n) ≡ count C w n - getD l i noPosition .index
       stays e q = ap (λ (j : ℕ). kept j e (level C w (suc j) n) (start C w n)) (sym up) ∙ keeps e q
 
-      pub others-stay : (count C w n - goneAt d i (getD l i noPosition .index) ≡ 1 → ⊥) → (e : ℕ) → whole e ≡ picks l d 0 d → copies (listed nodes 0 i) ≡ all e
+      others-stay : (count C w n - getD l i noPosition .index ≡ 1 → ⊥) → (e : ℕ) → whole e ≡ trimsFrom l 0 d → copies (listed nodes 0 i) ≡ all e
       others-stay x e q = sym (branch e q ∙ ap (beforeAll (listed nodes 0 i)) (many C P w e (h - 1) n (λ y. x (sym (stays e q) ∙ y))) ∙ all-copies (listed nodes 0 i))
 
-      module _ (k : count C w n - goneAt d i (getD l i noPosition .index) ≡ 1) where
+      module _ (k : count C w n - getD l i noPosition .index ≡ 1) where
         abbrev kid : ℕ
         kid = child C w n (count C w n - 1)
 
-        step : (e : ℕ) → whole e ≡ picks l d 0 d → copiesFrom C P (suc (h - 1)) e (level C w (suc (suc (h - 1))) n) (start C w n)
+        step : (e : ℕ) → whole e ≡ trimsFrom l 0 d → copiesFrom C P (suc (h - 1)) e (level C w (suc (suc (h - 1))) n) (start C w n)
             ≡ pick (ltb kid P) (pick (sound C (h - 1) (level C w (suc (h - 1)) kid) (row C w n (count C w n - 1)) Open) (before kid (copiesFrom C P (h - 1) e (level C w (suc (h - 1)) kid) (row C w n (count C w n - 1)))) (unsound kid)) (unsound n)
         step e q = one C P w e (h - 1) n (count C w n - 1) (omega (arith, some)) (stays e q ∙ k)
 
-        pub far : P ≤ kid → (e : ℕ) → whole e ≡ picks l d 0 d → unsound n ≡ all e
+        far : P ≤ kid → (e : ℕ) → whole e ≡ trimsFrom l 0 d → unsound n ≡ all e
         far x e q = sym (branch e q ∙ ap (beforeAll (listed nodes 0 i)) (step e q ∙ rw (le-ltb kid P x)) ∙ all-unsound (listed nodes 0 i) n)
 
         module _ (x : kid < P) where
@@ -222,7 +224,7 @@ module _ (C : Shape) (P : ℕ) (w : List ℕ) (root : ℕ) (l : List Position) (
           unfolding level
           here r = sound-at (level C w (h - 1)) C w (h - 1) kid r Open
 
-          pub bad : sound C (h - 1) (nodeAt C w kid) (row C w n (count C w n - 1)) Open ≡ false → (e : ℕ) → whole e ≡ picks l d 0 d → unsound kid ≡ all e
+          bad : sound C (h - 1) (nodeAt C w kid) (row C w n (count C w n - 1)) Open ≡ false → (e : ℕ) → whole e ≡ trimsFrom l 0 d → unsound kid ≡ all e
           bad s e q = sym (branch e q ∙ ap (beforeAll (listed nodes 0 i)) (step e q ∙ rw (lt-ltb kid P x, here (row C w n (count C w n - 1)), s)) ∙ all-unsound (listed nodes 0 i) kid)
 
           module _ (s : sound C (h - 1) (nodeAt C w kid) (row C w n (count C w n - 1)) Open ≡ true) where
@@ -230,13 +232,13 @@ module _ (C : Shape) (P : ℕ) (w : List ℕ) (root : ℕ) (l : List Position) (
             starts = soundly C (h - 1) (nodeAt C w kid) (row C w n (count C w n - 1)) Open (holds _ s) .begin
 
             -- what is trimmed from the child on
-            below : (e : ℕ) → whole e ≡ picks l d 0 d → trims (suc (h - 1)) e (level C w (suc (h - 1)) kid) (start C w kid) ≡ picks l d (i + 1) (d - (i + 1))
+            below : (e : ℕ) → whole e ≡ trimsFrom l 0 d → trims (suc (h - 1)) e (level C w (suc (h - 1)) kid) (start C w kid) ≡ trimsFrom l (i + 1) (d - (i + 1))
             below e q =
                 ap (trims (suc (h - 1)) e (level C w (suc (h - 1)) kid)) starts
                 ∙ sym (trims-child C P w e (h - 1) n (count C w n - 1) (omega (arith, some)) (own .1) (stays e q ∙ k))
                 ∙ ap (λ (j : ℕ). others (trims (suc j) e (level C w (suc j) n) (start C w n))) (sym up) ∙ ap others (G .told e q .0) ∙ others-at l d i
 
-            pub next : Copying (set nodes i (record { 0 = kid })) kid (h - 1) (i + 1)
+            next : Copying (set nodes i (record { 0 = kid })) kid (h - 1) (i + 1)
             unfolding AllIn
             next =
                 record {
@@ -246,20 +248,69 @@ module _ (C : Shape) (P : ℕ) (w : List ℕ) (root : ℕ) (l : List Position) (
                   long = length-set nodes i (record { 0 = kid }) ∙ G .long;
                   found = λ j m. ⊎-elim
                       (λ (y : suc j ≡ suc i). let v : j ≡ i = omega arith in
-                      subst (λ (a : ℕ). getD (set nodes i (record { 0 = kid })) a (record { 0 = 0 }) .0 < P) (sym v) (rw (getD-set-same nodes i (record { 0 = kid }) (record { 0 = 0 }) (omega (arith, G .high, G .long))) x))
+                      subst (λ (a : ℕ). getD (set nodes i (record { 0 = kid })) a (record { 0 = 0 }) .0 < P) (sym v) (rw (getD-set-same nodes i (record { 0 = kid }) (record { 0 = 0 }) (omega (arith, G .high, low, G .long))) x))
                       (λ (y : suc j < suc i). rw (getD-set-other nodes i j (record { 0 = kid }) (record { 0 = 0 }) (λ v. omega arith)) (G .found j (omega arith)))
                       (eq-or-lt-of-le (omega arith));
                   told = λ e q. (
                     below e q,
                     branch e q ∙ ap (beforeAll (listed nodes 0 i)) (step e q ∙ rw (lt-ltb kid P x, here (row C w n (count C w n - 1)), s))
                         ∙ all-snoc (listed nodes 0 i) kid (copiesFrom C P (h - 1) e (level C w (suc (h - 1)) kid) (row C w n (count C w n - 1)))
-                        ∙ ap (λ (ns : List ℕ). beforeAll ns (copiesFrom C P (h - 1) e (level C w (suc (h - 1)) kid) (row C w n (count C w n - 1)))) (sym (listed-set nodes i (record { 0 = kid }) (omega (arith, G .high, G .long))))
+                        ∙ ap (λ (ns : List ℕ). beforeAll ns (copiesFrom C P (h - 1) e (level C w (suc (h - 1)) kid) (row C w n (count C w n - 1)))) (sym (listed-set nodes i (record { 0 = kid }) (omega (arith, G .high, low, G .long))))
                         ∙ ap (λ (r : ℕ). beforeAll (listed (set nodes i (record { 0 = kid })) 0 (i + 1)) (copiesFrom C P (h - 1) e (level C w (suc (h - 1)) kid) r)) (sym starts),
                   );
                 }
 
+  -- what one level comes to
+  module _ (nodes : List NodeNo) (n h i : ℕ) (G : Copying nodes n h i) (t : 0 < h) where
+    abbrev at : ℕ
+    at = getD l i noPosition .index
+
+    abbrev last : ℕ
+    last = child C w n (count C w n - 1)
+
+    other : {A : Type 0} → _≡_ {A = ℕ} 0 1 → A
+    other e = absurd (omega arith)
+
+    pub stops : None ≡ copyAt C P w n h at → (e : ℕ) → whole e ≡ trimsFrom l 0 d → copies (listed nodes 0 i) ≡ all e
+    unfolding copyAt
+    stops q =
+        by-test (eqb (count C w n - at) 1)
+        (λ u. by-test (ltb last P)
+        (λ v. by-test (sound C (h - 1) (nodeAt C w last) (row C w n (count C w n - 1)) Open)
+        (λ x. let y = rw (u, v, x) at q in other (cc))
+        (λ x. let y = rw (u, v, x) at q in other (cc)))
+        (λ v. let y = rw (u, v) at q in other (cc)))
+        (λ u. others-stay nodes n h i G t (eqb-false (count C w n - at) 1 u))
+
+    pub spoils : (m : NodeNo) → Bad m ≡ copyAt C P w n h at → (e : ℕ) → whole e ≡ trimsFrom l 0 d → unsound (m .0) ≡ all e
+    unfolding copyAt
+    spoils m q =
+        by-test (eqb (count C w n - at) 1)
+        (λ u. let k = eqb-true (count C w n - at) 1 u in
+        by-test (ltb last P)
+        (λ v. by-test (sound C (h - 1) (nodeAt C w last) (row C w n (count C w n - 1)) Open)
+        (λ x. let y = rw (u, v, x) at q in other (cc))
+        (λ x. let y : Bad m ≡ Bad (record { 0 = last }) = rw (u, v, x) at q in let o : last ≡ m .0 = cc in
+        subst (λ (b : ℕ). (e : ℕ) → whole e ≡ trimsFrom l 0 d → unsound b ≡ all e) o (bad nodes n h i G t k (ltb-true last P v) x)))
+        (λ v. let y : Bad m ≡ Bad (record { 0 = n }) = rw (u, v) at q in let o : n ≡ m .0 = cc in
+        subst (λ (b : ℕ). (e : ℕ) → whole e ≡ trimsFrom l 0 d → unsound b ≡ all e) o (far nodes n h i G t k (ltb-false last P v))))
+        (λ u. let y = rw u at q in other (cc))
+
+    pub goes : (m : NodeNo) → Child m ≡ copyAt C P w n h at → Copying (set nodes i m) (m .0) (h - 1) (i + 1)
+    unfolding copyAt
+    goes m q =
+        by-test (eqb (count C w n - at) 1)
+        (λ u. let k = eqb-true (count C w n - at) 1 u in
+        by-test (ltb last P)
+        (λ v. by-test (sound C (h - 1) (nodeAt C w last) (row C w n (count C w n - 1)) Open)
+        (λ x. let y : Child m ≡ Child (record { 0 = last }) = rw (u, v, x) at q in let o : _≡_ {A = NodeNo} (record { 0 = last }) m = cc in
+        subst (λ (b : NodeNo). Copying (set nodes i b) (b .0) (h - 1) (i + 1)) o (next nodes n h i G t k (ltb-true last P v) x))
+        (λ x. let y = rw (u, v, x) at q in other (cc)))
+        (λ v. let y = rw (u, v) at q in other (cc)))
+        (λ u. let y = rw u at q in other (cc))
+
   -- at the root
-  pub first : root < P → height C w root ≤ 31 → sound C (height C w root) (nodeAt C w root) (start C w root) Open ≡ true → Copying (replicate 32 (record { 0 = 0 })) root (height C w root) 0
+  pub first : root < P → sound C (height C w root) (nodeAt C w root) (start C w root) Open ≡ true → Copying (replicate 32 (record { 0 = 0 })) root (height C w root) 0
   unfolding AllIn listed beforeAll
-  first x m s =
-      record { inside = x; good = s; high = omega arith; long = refl; found = λ j y. absurd (omega arith); told = λ e q. (q ∙ ap (picks l d 0) (sym (sub-zero d)), refl) }
+  first x s =
+      record { inside = x; good = s; high = omega arith; long = refl; found = λ j y. absurd (omega arith); told = λ e q. (q ∙ ap (trimsFrom l 0) (sym (sub-zero d)), refl) }
