@@ -92,7 +92,7 @@ module _ (C : Shape) (P : ℕ) (w : List ℕ) where
     pub depth-low : height C w n + p .depth ≤ 32
     depth-low = valid-top C P w p (c .deep) (c .valid) .deep
 
-    root-high : height C w root ≡ height C w n + (p .depth - 1)
+    pub root-high : height C w root ≡ height C w n + (p .depth - 1)
     unfolding Behind
     root-high = let b = c .cutting .behind in top-height root (height C w n) n (above p) (b .passed) (b .above) ∙ ap (λ (x : ℕ). height C w n + x) (stack-length (p .positions) (p .depth - 1))
 

@@ -6,3 +6,4 @@ pub mod Right
 pub mod Joined
 pub mod Distinct
 pub mod Climbs
+pub mod Settled

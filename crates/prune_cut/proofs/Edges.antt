@@ -1,140 +1,185 @@
 -- An edge that was found: what may be written there, and what 01 asks of it.
-use Prim.Native.Nat.{ℕ, zero, suc, _+_, _-_, _<_, _≤_}
+use Prim.Native.Nat.{ℕ, zero, suc, _+_, _-_, _<_, _≤_, zero-le}
 use mathlib.Core.List.{List, [], _∷_, _++_, reverse}
 use mathlib.Core.Bool.{Bool, true, false}
 use mathlib.Core.Path.{_≡_, refl, sym, ap, _∙_, subst}
 use native.Mathlib.Omega.{arith}
 use native.Mathlib.Nat.{add-zero}
-use lib.ListN.{getD, length}
+use lib.ListN.{length, take}
 use lib.Dec.{leb, ltb}
-use borrow.Author.Tests.{lt-ltb, le-leb}
-use Rattle.model.specs.Words.{Shape, pick, freeCount, freeAll, emptied, part, height, count, start, Header}
+use Rattle.model.specs.Words.{Shape, pick, freeCount, freeAll, emptied, height, count, start, Header}
 use Rattle.model.specs.Tree.{Open, Level, level, nodeAt, sound}
-use Rattle.model.specs.Reading.{occ}
+use Rattle.model.specs.Reading.{occ, rootNodes}
 use Rattle.model.specs.Cut.{gone, stays, ifGone, cutPairs, trim, cut, wentPairs, went, trims}
 use Rattle.model.specs.Refusals.{result, refused, damaged, Outcome}
 use Rattle.model.specs.Prune.{Copies, unsound, copies, copyAll, trimAll, pruneTree, copiesFrom, rootCopies, pruneWith}
-use Rattle.model.specs.Paths.{noPosition, stack, lastOf}
+use Rattle.model.specs.Paths.{lastOf, entered}
 use Rattle.model.specs.declared.id.NodeNo.{NodeNo}
 use Rattle.model.specs.declared.path.Position.{Position}
 use Rattle.model.specs.declared.path.Path.{Path}
 use Rattle.model.proofs.Sound.{sound-at}
+use Rattle.node_test.proofs.Rows.{facts}
 use Rattle.node_chain.specs.Chain.{listed}
-use Rattle.prefix_leaf.specs.Behind.{Above, Behind}
-use Rattle.edge.specs.Edge.{firstPairs, edgeTrims, edgeGone, Edged}
-use Rattle.edge.proofs.Climbs.{edge-stays, edge-whole}
-use Rattle.trim.specs.Picks.{AllIn, picks}
-use Rattle.reap.specs.Spine.{Reaping, Spine, Outside, Untouched}
-use Rattle.reap.proofs.Joined.{edge-picks, edge-ahead, edge-gone, edge-spine, edge-trims}
-use Rattle.reap.proofs.Distinct.{edge-untouched, edge-right, edge-ends}
-use Rattle.copies.specs.Copied.{copiesWith, copiesOf}
+use Rattle.walk.specs.Left.{left, Valid}
+use Rattle.reclaim.specs.Ready.{Ready}
+use Rattle.boundary.specs.Edge.{wentOf, trimsOn, Climbed, Edged}
+use Rattle.boundary.specs.Trims.{trimsOf, NoneBelow, Trims, Outside, Untouched}
+use Rattle.boundary.proofs.Joined.{root-high, depth-low, edge-spine, edge-top, edge-trims}
+use Rattle.boundary.proofs.Distinct.{edge-untouched, edge-right, edge-ends}
+use Rattle.boundary.proofs.Climbs.{node-in, edge-stays, edge-whole, edge-once, edge-few, edge-first}
+use Rattle.boundary.proofs.Settled.{settled-last, settled-none, settled-trims}
+use Rattle.trim.specs.Nodes.{AllIn}
+use Rattle.copies.specs.Copied.{copiesWith, copiesOf, SoundTop, Collapses}
 use Rattle.copies.specs.declared.Copies as Copied
 use Rattle.copies.specs.declared.CopyTest.{CopyTest}
 use Rattle.copies.specs.declared.CopyTest.the-variants.{Unsound, Sound}
-use Rattle.prune_write.specs.Found.{Rooted, trimsOf, leftOf, AllGo, SomeStay, resetTo, cutTo}
-use Rattle.prune_write.specs.Writable.{Resettable, Writable}
+use Rattle.prune_cut.specs.Found.{Rooted, AllGo, SomeStay, resetTo, cutTo}
+use Rattle.prune_cut.specs.Writable.{Resettable, Writable}
 use Rattle.prune_cut.proofs.Outside.{copies-outside}
 
--- the first position of a path is the root
-module _ (C : Shape) (P : ℕ) (w : List ℕ) (root : ℕ) where
-  top-node : (h n : ℕ) (l : List Position) (d : ℕ) → Above C P w root h n (stack l d) → (d ≡ 0 → n ≡ root) × (0 < d → getD l 0 noPosition .node .0 ≡ root)
-  unfolding Above stack
-  top-node h n l zero a = (λ _. a, λ z. absurd (omega arith))
-  top-node h n l (suc zero) a = (λ z. absurd (omega arith), λ _. a .above)
-  top-node h n l (suc (suc d)) a = (λ z. absurd (omega arith), λ _. top-node (suc h) (getD l (suc d) noPosition .node .0) l (suc d) (a .above) .1 (omega arith))
-
-  first-untouched : (l : List Position) (d : ℕ) (G : List ℕ) → 0 < d → Untouched G (picks l d 0 d) → occ (getD l 0 noPosition .node .0) G ≡ 0
-  unfolding picks Untouched
-  first-untouched l zero G z u = absurd (omega arith)
-  first-untouched l (suc d) G z u = u .0
-
-module _ (C : Shape) (P : ℕ) (w : List ℕ) (e root f : ℕ) (edge : Path) (R : Rooted C P w root f) (E : Edged C P w e root edge) where
+module _ (C : Shape) (P : ℕ) (w : List ℕ) (e root f : ℕ) (edge : Path) (j : ℕ) (R : Rooted C P w root f) (E : Edged C P w e root edge j) where
   abbrev h : ℕ
   h = height C w root
 
   abbrev tree : Level (suc h)
   tree = level C w (suc h) root
 
-  abbrev G : List ℕ
-  G = leftOf C w edge
-
   abbrev T : List (ℕ × ℕ)
   T = trimsOf edge
 
-  pub found-spine : (x : ℕ) × Spine C P w x T
-  found-spine = edge-spine C P w e root edge (E .climbed) (R .low)
+  abbrev G : List ℕ
+  G = wentOf C w T
+
+  abbrev from : Path
+  from = E .from
+
+  climbed : Climbed C P w e root (E .from)
+  climbed = E .topped .climbed
+
+  levels : E .from .depth ≤ h + 1
+  levels = omega (arith, root-high C P w e root from climbed, climbed .deep)
+
+  last-is : lastOf edge ≡ lastOf (E .from)
+  last-is = settled-last from edge (h + 1) (E .settled) (climbed .deep) levels
+
+  trims-is : T ≡ trimsOn (E .from)
+  trims-is = settled-trims from edge (h + 1) (E .settled) (climbed .deep) levels
+
+  went-is : G ≡ wentOf C w (trimsOn (E .from))
+  went-is = ap (wentOf C w) trims-is
+
+  -- what the code asks of an edge
+  pub shaped : (0 < edge .depth) × (edge .depth ≤ 32) × (length (edge .positions) ≡ 32)
+  shaped = let d = E .settled .depth-is in (omega (arith, d, climbed .deep), omega (arith, d, depth-low C P w e root from climbed), E .settled .long)
+
+  pub none-below : NoneBelow edge (height C w root + 1)
+  none-below = settled-none from edge (h + 1) (E .settled) (climbed .deep) levels
+
+  pub last-in : lastOf edge .node .0 < P
+  last-in = subst (λ (q : Position). q .node .0 < P) (sym last-is) (node-in C P w e root from climbed)
+
+  pub sound-top : SoundTop C P w root
+  sound-top = record { inside = R .inside; low = R .low; good = R .good }
+
+  pub count-is : j ≡ length (wentOf C w (trimsOf edge))
+  count-is = E .topped .counted ∙ ap (λ (ns : List ℕ). length ns) (sym went-is)
+
+  pub count-few : j ≤ 65535
+  count-few = omega (arith, E .topped .counted, edge-few C P w e root from climbed, R .header .pool-high)
 
   untouched : Untouched G T
-  untouched = let s = found-spine in edge-untouched C P w (s .0) T (s .1)
+  untouched =
+      let s = edge-spine C P w e root from climbed in
+      subst (λ (ts : List (ℕ × ℕ)). Untouched (wentOf C w ts) ts) (sym trims-is) (edge-untouched C P w (s .0) (trimsOn from) (s .1))
 
-  at-top : getD (edge .positions) 0 noPosition .node .0 ≡ root
-  unfolding Behind
-  at-top =
-      let n = lastOf edge .node .0 in
-      let q = top-node C P w root (height C w n) n (edge .positions) (edge .depth - 1) (E .climbed .cutting .behind .above) in
-      by-depth (edge .depth - 1) refl q
-    where
-      by-depth : (d : ℕ) → edge .depth - 1 ≡ d → (d ≡ 0 → lastOf edge .node .0 ≡ root) × (0 < d → getD (edge .positions) 0 noPosition .node .0 ≡ root) → getD (edge .positions) 0 noPosition .node .0 ≡ root
-      by-depth zero z q = ap (λ (i : ℕ). getD (edge .positions) i noPosition .node .0) (sym z) ∙ q .0 refl
-      by-depth (suc d) z q = q .1 (omega arith)
+  root-free : occ root G ≡ 0
+  unfolding Untouched
+  root-free =
+      let t = edge-top C P w e root from climbed in
+      let u : Untouched G ((root, t .0) ∷ t .1) = subst (Untouched G) (trims-is ∙ t .2) untouched in
+      u .0
 
-  pub resettable : freeCount w + length G ≤ P → Resettable C P w root edge
+  root-valid : Valid C P w (height C w root) (entered root ∷ [])
+  unfolding Valid
+  root-valid = let g = facts C w root h (start C w root) Open (R .good) in record { inside = R .inside; high = refl; within = zero-le; narrow = g .many; above = omega (arith, R .low) }
+
+  firsts : take j (rootNodes C w root) ≡ G
+  firsts = ap (λ (k : ℕ). take k (rootNodes C w root)) (E .topped .counted) ∙ edge-first C P w e root from climbed ∙ sym went-is
+
+  pub resettable : freeCount w + length (wentOf C w (trimsOf edge)) ≤ P → Resettable C P w root edge j
   resettable l =
-      let s = found-spine in
       record {
-        low = E .climbed .low;
-        long = E .climbed .long;
-        ahead = edge-ahead C P w e root edge (E .climbed);
-        reaping = record { header = R .header; tall = s .0; spine = s .1; room = omega (arith, R .header .pool-high) };
+        ready = record {
+          header = R .header;
+          valid = root-valid;
+          seen = climbed .seen;
+          after = left false C P w from;
+          parts = climbed .walked .one;
+          all-clean = climbed .walked .all-clean;
+          once-each = edge-once C P w e root from climbed;
+          are = climbed .went ∙ sym went-is ∙ sym firsts;
+          many = ap (λ (ns : List ℕ). length ns) (climbed .went) ∙ sym (E .topped .counted);
+          room = omega (arith, R .header .pool-high, count-is);
+        };
+        first = firsts;
         inside = R .inside;
-        root-stays = subst (λ (m : ℕ). occ m G ≡ 0) at-top (first-untouched C P w root (edge .positions) (edge .depth) G (E .climbed .deep) untouched);
+        root-stays = root-free;
       }
 
   -- All entries go -----------------------------------------------------------------------------------------
-  pub whole-is : AllGo C w edge → (k : ℕ) → pruneWith C P w root h e tree k (rootCopies C P h e tree) ≡ resetTo C P w root e k G
+  pub whole-is : AllGo C w edge → (k : ℕ) → pruneWith C P w root h e tree k (rootCopies C P h e tree) ≡ resetTo C P w root e k (trimsOf edge)
   unfolding pruneWith rootCopies pruneTree trim ifGone level resetTo
   whole-is a k =
-      let q = edge-whole C P w e root edge (E .climbed) a (E .whole a) in
-      let g = q .2 ∙ edge-gone C P w e root edge (E .climbed) in
-      let z : cutPairs e (cut h e) (tree .pairs) ≡ [] = q .1 in
+      let b = subst (λ (q : Position). count C w (q .node .0) ≤ q .index) last-is a in
+      let q = edge-whole C P w e root from climbed b (E .topped .whole b) in
+      let g = q .1 ∙ sym went-is in
+      let z : cutPairs e (cut h e) (tree .pairs) ≡ [] = q .0 in
       rw (z, z, g, add-zero (length G))
 
   -- Some stay ----------------------------------------------------------------------------------------------
   module _ (m : SomeStay C w edge) where
-    trims-are : trims (suc h) e tree (start C w root) ≡ T
-    trims-are = edge-stays C P w e root edge (E .climbed) m .trimmed ∙ edge-picks C w edge (E .climbed .deep)
+    kept : lastOf (E .from) .index < count C w (lastOf (E .from) .node .0)
+    kept = subst (λ (q : Position). q .index < count C w (q .node .0)) last-is m
 
-    pub stays-is : (k : ℕ) → pruneWith C P w root h e tree k (rootCopies C P h e tree) ≡ cutTo C P w root e k T G (copiesFrom C P h e tree (start C w root))
+    trims-are : trims (suc h) e tree (start C w root) ≡ T
+    trims-are = edge-stays C P w e root from climbed kept .trimmed ∙ sym trims-is
+
+    pub stays-is : (k : ℕ) → pruneWith C P w root h e tree k (rootCopies C P h e tree) ≡ cutTo C P w root e k (trimsOf edge) (copiesFrom C P h e tree (start C w root))
     unfolding pruneWith rootCopies pruneTree trim ifGone level cutTo
     stays-is k = by-copies (copiesFrom C P h e tree (start C w root)) refl
       where
-        by-copies : (c : Copies) → copiesFrom C P h e tree (start C w root) ≡ c → pruneWith C P w root h e tree k (rootCopies C P h e tree) ≡ cutTo C P w root e k T G c
-        by-copies (unsound x) z = let s = edge-stays C P w e root edge (E .climbed) m in rw (s .left, z)
+        by-copies : (c : Copies) → copiesFrom C P h e tree (start C w root) ≡ c → pruneWith C P w root h e tree k (rootCopies C P h e tree) ≡ cutTo C P w root e k T c
+        by-copies (unsound x) z = let s = edge-stays C P w e root from climbed kept in rw (s .left, z)
         by-copies (copies ns) z =
-            let s = edge-stays C P w e root edge (E .climbed) m in
-            let g = s .gone ∙ edge-gone C P w e root edge (E .climbed) in
+            let s = edge-stays C P w e root from climbed kept in
+            let g = s .gone ∙ sym went-is in
             let y : cutPairs e (cut h e) (tree .pairs) ≡ s .first ∷ s .others = s .left in
             rw (y, z, y, g, trims-are)
 
     -- the nodes to be copied, as they were found
-    module _ (r : Copied.Copies) (are : (x : ℕ) → trims (suc h) x tree (start C w root) ≡ T → copiesOf r ≡ copiesFrom C P h x tree (start C w root)) where
+    module _ (r : Copied.Copies) (are : Collapses C P w root edge (copiesOf r)) where
       pub found-unsound : (n : NodeNo) → r .answer ≡ Unsound n → copiesFrom C P h e tree (start C w root) ≡ unsound (n .0)
+      unfolding Collapses
       found-unsound n q = sym (are e trims-are) ∙ ap (λ (t : CopyTest). copiesWith t (listed (r .nodes) 0 (r .count))) q
 
       pub found-sound : r .answer ≡ Sound → copiesFrom C P h e tree (start C w root) ≡ copies (listed (r .nodes) 0 (r .count))
+      unfolding Collapses
       found-sound q = sym (are e trims-are) ∙ ap (λ (t : CopyTest). copiesWith t (listed (r .nodes) 0 (r .count))) q
 
-    pub writable : (nodes : List NodeNo) (k : ℕ) → k ≤ 31 → AllIn P nodes k → copiesFrom C P h e tree (start C w root) ≡ copies (listed nodes 0 k) → freeCount w + (length G + k) ≤ P → Writable C P w root edge nodes k
+    pub writable : (nodes : List NodeNo) (k : ℕ) → k ≤ 31 → AllIn P nodes k → copiesFrom C P h e tree (start C w root) ≡ copies (listed nodes 0 k) → freeCount w + (length (wentOf C w (trimsOf edge)) + k) ≤ P
+        → Writable C P w root edge j nodes k
     unfolding level
     writable nodes k l a q r =
-        let s = edge-ends C P w e root edge (E .climbed) (R .low) m in
+        let s = edge-ends C P w e root from climbed kept in
+        let right : (n : ℕ) → e ≤ start C w n → occ n G ≡ 0 = λ n z. ap (occ n) went-is ∙ edge-right C P w n e (s .0) (trimsOn from) (s .1) (s .2) z in
         record {
           reset = resettable (omega arith);
-          trims = edge-trims C P w e root edge (E .climbed) (R .low) m;
+          low = shaped .1;
+          long = shaped .2;
+          trims = subst (λ (ts : List (ℕ × ℕ)). Trims C P w ts) (sym trims-is) (edge-trims C P w e root from climbed kept);
           few = omega arith;
           found = a;
           stays = untouched;
-          copies-stay = copies-outside C P w e G (λ n z. edge-right C P w n e (s .0) T (s .1) (s .2) z) h root
-              (sound-at (level C w h) C w h root (start C w root) Open ∙ R .good) (subst (Untouched G) (sym trims-are) untouched) (listed nodes 0 k) q;
+          copies-stay = copies-outside C P w e G right h root (sound-at (level C w h) C w h root (start C w root) Open ∙ R .good) (subst (Untouched G) (sym trims-are) untouched) (listed nodes 0 k) q;
           room = omega (arith, R .header .pool-high);
         }

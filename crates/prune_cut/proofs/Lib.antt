@@ -1,3 +1,5 @@
-pub mod Edges
 pub mod Outside
+pub mod Order
+pub mod Written
+pub mod Edges
 pub mod Outcomes

@@ -14,7 +14,7 @@ use Rattle.model.specs.Prune.{Copies, unsound, copies, before, copiesFrom}
 use Rattle.model.proofs.Tests.{by-test, holds}
 use Rattle.model.proofs.Sound.{soundly, sound-at}
 use Rattle.copies.proofs.Copying.{first-pair, others, trims-child, many, at-leaf, one}
-use Rattle.reap.specs.Spine.{Outside, Untouched}
+use Rattle.boundary.specs.Trims.{Outside, Untouched}
 
 -- what is found before a list
 copies-are : (a b : List ℕ) → copies a ≡ copies b → a ≡ b

@@ -1,16 +1,22 @@
-// The cut at an edge: what it answers and leaves.
+// The cut at an edge: what it answers, and what it writes.
 
 ghost use mathlib.Core.Path.{_≡_};
+ghost use mathlib.Core.List.{_++_, reverse};
+ghost use lib.ListN.{take};
 ghost use Prim.Native.Nat.{_+_, _-_, _<_};
-ghost use Rattle.model.specs.Words.{height, start};
-ghost use Rattle.model.specs.Reading.{rootTree};
+ghost use Rattle.model.specs.Words.{emptied, freeAll};
+ghost use Rattle.model.specs.Reading.{rootNodes};
 ghost use Rattle.model.specs.Refusals.{pruned};
-ghost use Rattle.model.specs.Prune.{copiesFrom};
-ghost use Rattle.edge.specs.Edge.{Edged};
-ghost use Rattle.prune_write.specs.Found.{AllGo, Rooted, SomeStay, cutAt, cutTo, leftOf, resetTo, trimsOf};
+ghost use Rattle.model.specs.Prune.{copyAll, trimAll};
 ghost use Rattle.node.specs.Layout.{shapeOf};
+ghost use Rattle.node_chain.specs.Chain.{listed};
+ghost use Rattle.boundary.specs.Edge.{wentOf};
+ghost use Rattle.boundary.specs.Trims.{trimsOf};
+ghost use Rattle.prune_cut.specs.Found.{AllGo, EdgedIn, RootedIn, SomeStay, cutAtIn, cutIn, resetIn};
+ghost use Rattle.prune_cut.specs.Writable.{Resettable, Writable};
 use copies;
 use copies::CopyTest;
+use edge::Boundary;
 use model::answer::Pruned;
 use model::answer::Refusal;
 use model::answer::RowPagePrefixPrune;
@@ -19,23 +25,54 @@ use model::id::RowID;
 use model::path::Path;
 use node::header;
 use node::header::StoreHeader;
-use reap;
+use node::layout::Layout;
+use pool::write;
+use reclaim;
+use trim;
+
+// What goes is freed first, j nodes: the numbers of the children that go are lost when their node is trimmed. No freed node
+// is trimmed, copied or the root, so the words are those of 01's order.
+fn write_edge(
+    l: Layout,
+    s: &mut [u64],
+    root: NodeNo,
+    end: RowID,
+    edge: Path,
+    j: u64,
+    nodes: [NodeNo; 32],
+    k: usize,
+)
+    requires { ⌜ Writable (shapeOf l) (l .pool) (now s) (root .0) edge j nodes k ⌝ }
+    ensures { λ _. ⌜ now (s .exit) ≡ freeAll (shapeOf l) (copyAll (shapeOf l) (trimAll (shapeOf l) (now (s .entry)) (end .0) (trimsOf edge)) (root .0) (listed nodes 0 k)) (wentOf (shapeOf l) (now (s .entry)) (trimsOf edge) ++ reverse (listed nodes 0 k)) ⌝ }
+{
+    reclaim::free_first(l, s, root, j);
+    trim::trim_all(l, s, edge, end);
+    trim::copy_all(l, s, root, nodes, k);
+    trim::free_copied(l, s, nodes, k);
+}
+
+// Nothing is left: all below the root is freed, and the root is an empty leaf from the end on.
+fn write_reset(l: Layout, s: &mut [u64], root: NodeNo, end: RowID, edge: Path, j: u64)
+    requires { ⌜ Resettable (shapeOf l) (l .pool) (now s) (root .0) edge j ⌝ }
+    ensures { λ _. ⌜ now (s .exit) ≡ freeAll (shapeOf l) (emptied (shapeOf l) (now (s .entry)) (root .0) (end .0)) (wentOf (shapeOf l) (now (s .entry)) (trimsOf edge)) ⌝ }
+{
+    reclaim::free_first(l, s, root, j);
+    write::empty_node(l, s, root, end);
+}
 
 // All k entries go, and nothing is left.
-fn prune_all(h: StoreHeader, s: &mut [u64], end: RowID, k: u64, edge: Path) -> Pruned
-    requires { ⌜ Rooted (shapeOf (h .layout)) (h .layout .pool) (now s) (h .root .0) (h .«free_count») ⌝ }
-    requires { ⌜ Edged (shapeOf (h .layout)) (h .layout .pool) (now s) (end .0) (h .root .0) edge ⌝ }
-    requires { ⌜ AllGo (shapeOf (h .layout)) (now s) edge ⌝ }
-    ensures answer { λ r. ⌜ pruned r ≡ resetTo (shapeOf (h .layout)) (h .layout .pool) (now (s .entry)) (h .root .0) (end .0) k (leftOf (shapeOf (h .layout)) (now (s .entry)) edge) .answer ⌝ }
-    ensures words { λ r. ⌜ now (s .exit) ≡ resetTo (shapeOf (h .layout)) (h .layout .pool) (now (s .entry)) (h .root .0) (end .0) k (leftOf (shapeOf (h .layout)) (now (s .entry)) edge) .words ⌝ }
+fn prune_all(h: StoreHeader, s: &mut [u64], end: RowID, k: u64, b: Boundary) -> Pruned
+    requires { ⌜ RootedIn h (now s) × EdgedIn h (now s) (end .0) b × AllGo (shapeOf (h .layout)) (now s) (b .edge) ⌝ }
+    ensures answer { λ r. ⌜ pruned r ≡ resetIn h (now (s .entry)) (end .0) k (b .edge) .answer ⌝ }
+    ensures words { λ r. ⌜ now (s .exit) ≡ resetIn h (now (s .entry)) (end .0) k (b .edge) .words ⌝ }
 {
     let l = h.layout;
-    let room = l.pool - h.free_count;
-    let gone = reap::count_gone(l, &s[..], edge);
-    if room < gone {
+    let gone = b.gone;
+    if l.pool - h.free_count < gone {
         return Pruned::Refused(Refusal::Unsound(NodeNo(NodeNo::HEADER)));
     }
-    prune_write::write_reset(l, s, h.root, end, edge);
+    let edge = b.edge;
+    write_reset(l, s, h.root, end, edge, gone);
     Pruned::Done(RowPagePrefixPrune {
         removed_entries: k,
         reclaimed_nodes: gone,
@@ -44,15 +81,14 @@ fn prune_all(h: StoreHeader, s: &mut [u64], end: RowID, k: u64, edge: Path) -> P
 }
 
 // The first k entries go, and some are left.
-fn prune_some(h: StoreHeader, s: &mut [u64], end: RowID, k: u64, edge: Path) -> Pruned
-    requires { ⌜ Rooted (shapeOf (h .layout)) (h .layout .pool) (now s) (h .root .0) (h .«free_count») ⌝ }
-    requires { ⌜ Edged (shapeOf (h .layout)) (h .layout .pool) (now s) (end .0) (h .root .0) edge ⌝ }
-    requires { ⌜ SomeStay (shapeOf (h .layout)) (now s) edge ⌝ }
-    ensures answer { λ r. ⌜ pruned r ≡ cutTo (shapeOf (h .layout)) (h .layout .pool) (now (s .entry)) (h .root .0) (end .0) k (trimsOf edge) (leftOf (shapeOf (h .layout)) (now (s .entry)) edge) (copiesFrom (shapeOf (h .layout)) (h .layout .pool) (height (shapeOf (h .layout)) (now (s .entry)) (h .root .0)) (end .0) (rootTree (shapeOf (h .layout)) (now (s .entry)) (h .root .0)) (start (shapeOf (h .layout)) (now (s .entry)) (h .root .0))) .answer ⌝ }
-    ensures words { λ r. ⌜ now (s .exit) ≡ cutTo (shapeOf (h .layout)) (h .layout .pool) (now (s .entry)) (h .root .0) (end .0) k (trimsOf edge) (leftOf (shapeOf (h .layout)) (now (s .entry)) edge) (copiesFrom (shapeOf (h .layout)) (h .layout .pool) (height (shapeOf (h .layout)) (now (s .entry)) (h .root .0)) (end .0) (rootTree (shapeOf (h .layout)) (now (s .entry)) (h .root .0)) (start (shapeOf (h .layout)) (now (s .entry)) (h .root .0))) .words ⌝ }
+fn prune_some(h: StoreHeader, s: &mut [u64], end: RowID, k: u64, b: Boundary) -> Pruned
+    requires { ⌜ RootedIn h (now s) × EdgedIn h (now s) (end .0) b × SomeStay (shapeOf (h .layout)) (now s) (b .edge) ⌝ }
+    ensures answer { λ r. ⌜ pruned r ≡ cutIn h (now (s .entry)) (end .0) k (b .edge) .answer ⌝ }
+    ensures words { λ r. ⌜ now (s .exit) ≡ cutIn h (now (s .entry)) (end .0) k (b .edge) .words ⌝ }
 {
     let l = h.layout;
     let root = h.root;
+    let edge = b.edge;
     let copied = copies::find_copies(l, &s[..], root, edge);
     let tested = copied.answer;
     match tested {
@@ -62,17 +98,12 @@ fn prune_some(h: StoreHeader, s: &mut [u64], end: RowID, k: u64, edge: Path) -> 
         CopyTest::Sound => {}
     }
     let levels = copied.count;
-    let room = l.pool - h.free_count;
-    let gone = reap::count_gone(l, &s[..], edge);
-    if room < gone {
-        return Pruned::Refused(Refusal::Unsound(NodeNo(NodeNo::HEADER)));
-    }
-    let freed = gone + levels as u64;
-    if room < freed {
+    let freed = b.gone + levels as u64;
+    if l.pool - h.free_count < freed {
         return Pruned::Refused(Refusal::Unsound(NodeNo(NodeNo::HEADER)));
     }
     let nodes = copied.nodes;
-    prune_write::write_edge(l, s, root, end, edge, nodes, levels);
+    write_edge(l, s, root, end, edge, b.gone, nodes, levels);
     Pruned::Done(RowPagePrefixPrune {
         removed_entries: k,
         reclaimed_nodes: freed,
@@ -81,19 +112,19 @@ fn prune_some(h: StoreHeader, s: &mut [u64], end: RowID, k: u64, edge: Path) -> 
 }
 
 // The first k entries go, at an edge that was found.
-pub fn prune_edge(h: StoreHeader, s: &mut [u64], end: RowID, k: u64, edge: Path) -> Pruned
-    requires { ⌜ Rooted (shapeOf (h .layout)) (h .layout .pool) (now s) (h .root .0) (h .«free_count») ⌝ }
-    requires { ⌜ Edged (shapeOf (h .layout)) (h .layout .pool) (now s) (end .0) (h .root .0) edge ⌝ }
-    ensures answer { λ r. ⌜ pruned r ≡ cutAt (shapeOf (h .layout)) (h .layout .pool) (now (s .entry)) (h .root .0) (end .0) k .answer ⌝ }
-    ensures words { λ r. ⌜ now (s .exit) ≡ cutAt (shapeOf (h .layout)) (h .layout .pool) (now (s .entry)) (h .root .0) (end .0) k .words ⌝ }
+pub fn prune_edge(h: StoreHeader, s: &mut [u64], end: RowID, k: u64, b: Boundary) -> Pruned
+    requires { ⌜ RootedIn h (now s) × EdgedIn h (now s) (end .0) b ⌝ }
+    ensures answer { λ r. ⌜ pruned r ≡ cutAtIn h (now (s .entry)) (end .0) k .answer ⌝ }
+    ensures words { λ r. ⌜ now (s .exit) ≡ cutAtIn h (now (s .entry)) (end .0) k .words ⌝ }
 {
+    let edge = b.edge;
     let at = edge.depth - 1;
     let last = edge.positions[at];
     let node = last.node;
     let index = last.index;
     let top = h.layout.header(&s[..], node);
     if top.count <= index {
-        return prune_all(h, s, end, k, edge);
+        return prune_all(h, s, end, k, b);
     }
-    prune_some(h, s, end, k, edge)
+    prune_some(h, s, end, k, b)
 }

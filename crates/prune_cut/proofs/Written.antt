@@ -8,9 +8,8 @@ use Rattle.model.specs.Words.{Shape, freeCount, part, count, freeAll, copied, H
 use Rattle.model.specs.Prune.{trimmed, trimAll, copyAll}
 use Rattle.model.proofs.Words.{header-at}
 use Rattle.model.proofs.Writes.{free-all-keeps, free-all-length, copied-length}
-use Rattle.trim.specs.Picks.{Trims}
+use Rattle.boundary.specs.Trims.{Trims, Untouched}
 use Rattle.trim.proofs.Turns.{trims-next}
-use Rattle.reap.specs.Spine.{Untouched}
 
 module _ (C : Shape) (P : ℕ) where
   pub freed-header : (w l : List ℕ) → Header (C .cap) P w → Header (C .cap) P (freeAll C w l)

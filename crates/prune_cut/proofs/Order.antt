@@ -11,10 +11,13 @@ use Rattle.model.specs.Prune.{moved, trimmed, trimAll, copyAll}
 use Rattle.model.proofs.Words.{put-word, put-comm, set-put}
 use Rattle.model.proofs.Frame.{Same}
 use Rattle.model.proofs.Writes.{freed-keeps, not-first, not-rest}
-use Rattle.trim.specs.Picks.{Trims}
+use Rattle.boundary.specs.Trims.{Trims, Outside, Untouched}
 use Rattle.trim.proofs.Turns.{trims-next}
-use Rattle.reap.specs.Spine.{Outside, Untouched}
-use Rattle.reap.proofs.Children.{free-append}
+
+free-append : (C : Shape) (w : List ℕ) (a b : List ℕ) → freeAll C w (a ++ b) ≡ freeAll C (freeAll C w a) b
+unfolding freeAll
+free-append C w [] b = refl
+free-append C w (n ∷ a) b = free-append C (freed C w n) a b
 
 module _ (C : Shape) (n : ℕ) where
   -- the law of one write

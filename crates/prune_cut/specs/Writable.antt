@@ -1,0 +1,33 @@
+-- What is known before an accepted prune writes.
+use Prim.Native.Nat.{ℕ, _+_, _<_, _≤_}
+use mathlib.Core.List.{List}
+use mathlib.Core.Path.{_≡_}
+use lib.ListN.{length, take}
+use Rattle.model.specs.Words.{Shape, freeCount}
+use Rattle.model.specs.Reading.{occ, rootNodes}
+use Rattle.model.specs.declared.id.NodeNo.{NodeNo}
+use Rattle.model.specs.declared.path.Path.{Path}
+use Rattle.node_chain.specs.Chain.{listed}
+use Rattle.reclaim.specs.Ready.{Ready}
+use Rattle.boundary.specs.Edge.{wentOf}
+use Rattle.boundary.specs.Trims.{trimsOf, Trims, Outside, Untouched}
+use Rattle.trim.specs.Nodes.{AllIn}
+
+-- the nodes that go are the first j in postorder, and can be freed; the root is none of them
+pub record Resettable (C : Shape) (P : ℕ) (w : List ℕ) (root : ℕ) (edge : Path) (j : ℕ) : Type 0 where
+  pub ready : Ready C P w root j
+  pub first : take j (rootNodes C w root) ≡ wentOf C w (trimsOf edge)
+  pub inside : root < P
+  pub root-stays : occ root (wentOf C w (trimsOf edge)) ≡ 0
+
+-- something is left, and k nodes are copied into the root
+pub record Writable (C : Shape) (P : ℕ) (w : List ℕ) (root : ℕ) (edge : Path) (j : ℕ) (nodes : List NodeNo) (k : ℕ) : Type 0 where
+  pub reset : Resettable C P w root edge j
+  pub low : edge .depth ≤ 32
+  pub long : length (edge .positions) ≡ 32
+  pub trims : Trims C P w (trimsOf edge)
+  pub few : k ≤ 32
+  pub found : AllIn P nodes k
+  pub stays : Untouched (wentOf C w (trimsOf edge)) (trimsOf edge)
+  pub copies-stay : Outside (wentOf C w (trimsOf edge)) (listed nodes 0 k)
+  pub room : freeCount w + length (wentOf C w (trimsOf edge)) + k ≤ 65535
