@@ -19,13 +19,14 @@ use Rattle.node.specs.declared.header.StoreHeader.{StoreHeader}
 use Rattle.node.specs.declared.header.Opened.the-variants.{Refused}
 use Rattle.node.proofs.Opened.{IsOpen, is-refused, goes-on}
 use Rattle.model.proofs.Answers.{is-refusal}
-use Rattle.prefix.specs.Named.{Ended, endingOf, Ending}
+use Rattle.prefix.specs.Named.{endingOf, Ending}
+use Rattle.boundary.specs.Edge.{Ended}
 use Rattle.prefix_leaf.specs.Progress.{stoppedBy, namedOf}
 use Rattle.prefix.specs.declared.Prefix.{Prefix}
 use Rattle.prefix_leaf.specs.declared.Named.{Named}
 use Rattle.prefix_leaf.specs.declared.Named.the-variants.{Entries}
 use Rattle.prefix_leaf.specs.declared.Named.the-variants as Variants
-use Rattle.prune_write.specs.Found.{InStore, Rooted, cutAt, pruneAt}
+use Rattle.prune_cut.specs.Found.{InStore, Rooted, cutAt, pruneAt}
 
 abbrev refuses : List ℕ → Answer → Outcome
 refuses w a = record { answer = a; words = w }
@@ -110,6 +111,6 @@ module _ (C : Shape) (P : ℕ) (w : List ℕ) (n e : ℕ) where
   unfolding pruneScanned
   named-entries x k q = ap (λ (y : Named). pruneScanned C P w n (height C w n) e (rootTree C w n) (namedOf e y)) q
 
-  pub named-ended : (x : Prefix) (k : ℕ) → x .answer ≡ Entries k → Ending C P w e n x → Ended C P w e n (x .path) (x .used)
+  pub named-ended : (x : Prefix) (k : ℕ) → x .answer ≡ Entries k → Ending C P w e n x → Ended C P w e n (x .path) (x .used) (x .left)
   unfolding Ending
-  named-ended x k q d = subst (λ (y : Named). endingOf C P w e n y (x .path) (x .used)) q d
+  named-ended x k q d = subst (λ (y : Named). endingOf C P w e n y (x .path) (x .used) (x .left)) q d

@@ -4,14 +4,13 @@ ghost use mathlib.Core.Bool.{false};
 ghost use mathlib.Core.Path.{_≡_};
 ghost use Prim.Native.Nat.{_-_, _<_};
 ghost use lib.ListN.{length};
-ghost use Rattle.model.specs.Words.{lent, height, start};
-ghost use Rattle.model.specs.Reading.{rootTree};
+ghost use Rattle.model.specs.Words.{lent};
 ghost use Rattle.model.specs.Tree.{emptyRoot};
 ghost use Rattle.model.specs.Refusals.{pruned};
-ghost use Rattle.model.specs.Prune.{pruneCheckpointPrefix, pruneScanned};
+ghost use Rattle.model.specs.Prune.{pruneCheckpointPrefix};
 ghost use Rattle.prefix.specs.Named.{Ending};
 ghost use Rattle.prefix_leaf.specs.Progress.{namedOf};
-ghost use Rattle.prune_write.specs.Found.{InStore, Rooted, pruneAt};
+ghost use Rattle.prune_cut.specs.Found.{InOpen, RootedIn, pruneIn, scannedIn};
 ghost use Rattle.node.specs.Layout.{shapeOf};
 use edge;
 use model::answer::Pruned;
@@ -31,29 +30,29 @@ use prune_cut;
 
 // What the list names goes, where it was accepted.
 fn prune_named(h: StoreHeader, s: &mut [u64], end: RowID, prefix: Prefix) -> Pruned
-    requires { ⌜ Rooted (shapeOf (h .layout)) (h .layout .pool) (now s) (h .root .0) (h .«free_count») ⌝ }
+    requires { ⌜ RootedIn h (now s) ⌝ }
     requires { ⌜ Ending (shapeOf (h .layout)) (h .layout .pool) (now s) (end .0) (h .root .0) prefix ⌝ }
-    ensures answer { λ r. ⌜ pruned r ≡ pruneScanned (shapeOf (h .layout)) (h .layout .pool) (now (s .entry)) (h .root .0) (height (shapeOf (h .layout)) (now (s .entry)) (h .root .0)) (end .0) (rootTree (shapeOf (h .layout)) (now (s .entry)) (h .root .0)) (namedOf (end .0) (prefix .answer)) .answer ⌝ }
-    ensures words { λ r. ⌜ now (s .exit) ≡ pruneScanned (shapeOf (h .layout)) (h .layout .pool) (now (s .entry)) (h .root .0) (height (shapeOf (h .layout)) (now (s .entry)) (h .root .0)) (end .0) (rootTree (shapeOf (h .layout)) (now (s .entry)) (h .root .0)) (namedOf (end .0) (prefix .answer)) .words ⌝ }
+    ensures answer { λ r. ⌜ pruned r ≡ scannedIn h (now (s .entry)) (end .0) (namedOf (end .0) (prefix .answer)) .answer ⌝ }
+    ensures words { λ r. ⌜ now (s .exit) ≡ scannedIn h (now (s .entry)) (end .0) (namedOf (end .0) (prefix .answer)) .words ⌝ }
 {
     let answer = prefix.answer;
     match answer {
         Named::Refused(r) => Pruned::Refused(r),
         Named::Entries(k) => {
             let path = prefix.path;
-            let edge = edge::find_edge(h.layout, &s[..], path, prefix.used);
-            prune_cut::prune_edge(h, s, end, k, edge)
+            let boundary = edge::find_edge(h.layout, &s[..], path, prefix.used, prefix.left);
+            prune_cut::prune_edge(h, s, end, k, boundary)
         }
     }
 }
 
 // On a root that holds entries: its test, its start, then the leaves against the list.
 fn prune_filled(h: StoreHeader, s: &mut [u64], start: RowID, end: RowID, ids: &[u64]) -> Pruned
-    requires { ⌜ InStore (shapeOf (h .layout)) (h .layout .pool) (now s) (h .root .0) (h .«free_count») ⌝ }
+    requires { ⌜ InOpen h (now s) ⌝ }
     requires { ⌜ 0 < length (now ids) ⌝ }
     requires { ⌜ emptyRoot (shapeOf (h .layout)) (now s) (h .root .0) ≡ false ⌝ }
-    ensures answer { λ r. ⌜ pruned r ≡ pruneAt (shapeOf (h .layout)) (h .layout .pool) (now (s .entry)) (h .root .0) (start .0) (end .0) (now (ids .entry)) .answer ⌝ }
-    ensures words { λ r. ⌜ now (s .exit) ≡ pruneAt (shapeOf (h .layout)) (h .layout .pool) (now (s .entry)) (h .root .0) (start .0) (end .0) (now (ids .entry)) .words ⌝ }
+    ensures answer { λ r. ⌜ pruned r ≡ pruneIn h (now (s .entry)) (start .0) (end .0) (now (ids .entry)) .answer ⌝ }
+    ensures words { λ r. ⌜ now (s .exit) ≡ pruneIn h (now (s .entry)) (start .0) (end .0) (now (ids .entry)) .words ⌝ }
 {
     let l = h.layout;
     let root = h.root;
@@ -76,10 +75,10 @@ fn prune_filled(h: StoreHeader, s: &mut [u64], start: RowID, end: RowID, ids: &[
 
 // On an open store, with ids and rows.
 fn prune_open(h: StoreHeader, s: &mut [u64], start: RowID, end: RowID, ids: &[u64]) -> Pruned
-    requires { ⌜ InStore (shapeOf (h .layout)) (h .layout .pool) (now s) (h .root .0) (h .«free_count») ⌝ }
+    requires { ⌜ InOpen h (now s) ⌝ }
     requires { ⌜ 0 < length (now ids) ⌝ }
-    ensures answer { λ r. ⌜ pruned r ≡ pruneAt (shapeOf (h .layout)) (h .layout .pool) (now (s .entry)) (h .root .0) (start .0) (end .0) (now (ids .entry)) .answer ⌝ }
-    ensures words { λ r. ⌜ now (s .exit) ≡ pruneAt (shapeOf (h .layout)) (h .layout .pool) (now (s .entry)) (h .root .0) (start .0) (end .0) (now (ids .entry)) .words ⌝ }
+    ensures answer { λ r. ⌜ pruned r ≡ pruneIn h (now (s .entry)) (start .0) (end .0) (now (ids .entry)) .answer ⌝ }
+    ensures words { λ r. ⌜ now (s .exit) ≡ pruneIn h (now (s .entry)) (start .0) (end .0) (now (ids .entry)) .words ⌝ }
 {
     let empty = node_root::is_empty_root(h.layout, &s[..], h.root);
     if !empty {

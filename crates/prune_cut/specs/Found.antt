@@ -9,7 +9,7 @@ use Rattle.model.specs.Words.{Shape, pick, freeCount, freeAll, emptied, height,
 use Rattle.model.specs.Tree.{Open, nodeAt, sound, emptyRoot, rootSound}
 use Rattle.model.specs.Reading.{rootTree}
 use Rattle.model.specs.Refusals.{Answer, result, refused, damaged, Outcome}
-use Rattle.model.specs.Prune.{Copies, unsound, copies, trimAll, copyAll, copiesFrom, rootCopies, pruneWith, pruneRoot}
+use Rattle.model.specs.Prune.{Copies, unsound, copies, trimAll, copyAll, copiesFrom, rootCopies, pruneWith, pruneRoot, Scan, pruneScanned}
 use Rattle.model.specs.Paths.{lastOf}
 use Rattle.model.specs.declared.path.Path.{Path}
 use Rattle.node.specs.Layout.{shapeOf}
@@ -94,3 +94,10 @@ cutAtIn h w e k = cutAt (shapeOf (h .layout)) (h .layout .pool) w (h .root .0) e
 
 abbrev pub pruneIn : StoreHeader → List ℕ → ℕ → ℕ → List ℕ → Outcome
 pruneIn h w s e ids = pruneAt (shapeOf (h .layout)) (h .layout .pool) w (h .root .0) s e ids
+
+-- the list against the leaves came to x
+abbrev pub scannedIn : StoreHeader → List ℕ → ℕ → Scan → Outcome
+scannedIn h w e x =
+    let C = shapeOf (h .layout) in
+    let n = h .root .0 in
+    pruneScanned C (h .layout .pool) w n (height C w n) e (rootTree C w n) x

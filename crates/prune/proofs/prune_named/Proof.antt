@@ -2,6 +2,7 @@ use borrow.Author.Needs.{needs}
 use mathlib.Core.Path.{sym, ap, _∙_}
 use Rattle.node.specs.Layout.{shapeOf}
 use Rattle.model.specs.Refusals.{Outcome}
+use Rattle.edge.specs.Found.{Finds}
 use Rattle.prune.proofs.Deciding.{named-refused, named-entries, named-ended}
 use Rattle.prune.proofs.prune_named.Statement.{statement}
 use Rattle.prune.proofs.prune_named.Tie as tie
@@ -16,6 +17,7 @@ find-edge-requires : tie.Need-find-edge-requires
 find-edge-requires c κs = let a = c .before .before .before .before .before .before .args in (c .before .before .before .before .before .before .pre .0 .header, (a .end .0, a .h .root .0, (named-ended (shapeOf (a .h .layout)) (a .h .layout .pool) (a .s .now) (a .h .root .0) (a .end .0) (a .prefix) _ (c .before .before .before .answer2 .given .1) (c .before .before .before .before .before .before .pre .1))))
 
 prune-edge-requires : tie.Need-prune-edge-requires
+unfolding Finds
 prune-edge-requires c κs = let a = c .before .before .before .before .before .before .before .before .args in (c .before .before .before .before .before .before .before .before .pre .0, c .before .find-edge .ensures (a .end .0) (a .h .root .0) (named-ended (shapeOf (a .h .layout)) (a .h .layout .pool) (a .s .now) (a .h .root .0) (a .end .0) (a .prefix) _ (c .before .before .before .before .before .answer2 .given .1) (c .before .before .before .before .before .before .before .before .pre .1)))
 
 returns : tie.Need-returns
