@@ -15,16 +15,13 @@ use node_chain;
 use walk::turn;
 use walk::turn::Step;
 
-// Frees the first k nodes, in postorder, of the tree from root.
-pub fn free_first(l: Layout, s: &mut [u64], root: NodeNo, k: u64)
-    requires { ⌜ Ready (shapeOf l) (l .pool) (now s) (root .0) k ⌝ }
-    ensures { λ _. ⌜ now (s .exit) ≡ freeAll (shapeOf l) (now (s .entry)) (take k (rootNodes (shapeOf l) (now (s .entry)) (root .0))) ⌝ }
+// Frees the first k nodes, in postorder, of the tree from a node.
+pub fn free_first(l: Layout, s: &mut [u64], node: NodeNo, k: u64)
+    requires { ⌜ Ready (shapeOf l) (l .pool) (now s) (node .0) k ⌝ }
+    ensures { λ _. ⌜ now (s .exit) ≡ freeAll (shapeOf l) (now (s .entry)) (take k (rootNodes (shapeOf l) (now (s .entry)) (node .0))) ⌝ }
 {
     let mut path = Path {
-        positions: [Position {
-            node: root,
-            index: 0,
-        }; 32],
+        positions: [Position { node, index: 0 }; 32],
         depth: 1,
     };
     let mut freed: u64 = 0;

@@ -1,14 +1,14 @@
 -- The walk that takes page ids: what it knows at each turn, and what a turn keeps.
 use Prim.Native.Nat.{ℕ, suc, _+_, _<_, _≤_}
 use mathlib.Core.List.{List, [], _∷_, _++_}
-use mathlib.Core.Bool.{true, false}
+use mathlib.Core.Bool.{false}
 use mathlib.Core.Path.{_≡_, refl, sym, ap, _∙_}
 use mathlib.Core.Logic.{_⊎_, inl, inr}
 use native.Mathlib.Omega.{arith}
 use lib.ListN.{length, length-append}
 use Rattle.model.specs.Words.{Shape, fill, height, count, start, maxHeight}
 use Rattle.model.specs.Tree.{Open, AllSound}
-use Rattle.model.specs.Reading.{Visit, Leave, Entry, pageIds, rootEntries, rootTree}
+use Rattle.model.specs.Reading.{Visit, Entry, pageIds, rootEntries, rootTree}
 use Rattle.model.specs.WellFormed.{SoundRoot, emptyTree, soundTree}
 use Rattle.model.specs.Paths.{stack, lastOf}
 use Rattle.model.specs.declared.path.Path.{Path}

@@ -40,16 +40,13 @@ fn copy_leaf(l: Layout, s: &[u64], n: NodeNo, pages: &mut [u64], at: usize) -> u
 }
 
 // The page ids of a sound tree go into the list, left to right: those of a leaf as the walk leaves it.
-pub fn copy_tree(l: Layout, s: &[u64], root: NodeNo, pages: &mut [u64])
-    requires { ⌜ Releasable (shapeOf l) (l .pool) (now s) (root .0) 0 ⌝ }
-    requires { ⌜ length (rootEntries (shapeOf l) (now s) (root .0)) ≤ length (now pages) ⌝ }
-    ensures { λ _. ⌜ now (pages .exit) ≡ fill (now (pages .entry)) 0 (pageIds (rootEntries (shapeOf l) (now (s .entry)) (root .0))) ⌝ }
+pub fn copy_tree(l: Layout, s: &[u64], node: NodeNo, pages: &mut [u64])
+    requires { ⌜ Releasable (shapeOf l) (l .pool) (now s) (node .0) 0 ⌝ }
+    requires { ⌜ length (rootEntries (shapeOf l) (now s) (node .0)) ≤ length (now pages) ⌝ }
+    ensures { λ _. ⌜ now (pages .exit) ≡ fill (now (pages .entry)) 0 (pageIds (rootEntries (shapeOf l) (now (s .entry)) (node .0))) ⌝ }
 {
     let mut path = Path {
-        positions: [Position {
-            node: root,
-            index: 0,
-        }; 32],
+        positions: [Position { node, index: 0 }; 32],
         depth: 1,
     };
     let mut place: usize = 0;

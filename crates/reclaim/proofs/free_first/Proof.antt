@@ -22,7 +22,7 @@ abbrev μ-loop : tie.MeasureT-loop
 μ-loop l s₀ k path₀ freed₀ s path freed = length (left false (shapeOf l) (l .pool) s path)
 
 loop-holds : tie.Need-loop-holds Inv-loop μ-loop
-loop-holds c = start-freeing (shapeOf (c .before .args .l)) (c .before .args .l .pool) (c .before .args .s .now) (c .before .args .root .0) (c .before .args .k) (c .before .pre)
+loop-holds c = start-freeing (shapeOf (c .before .args .l)) (c .before .args .l .pool) (c .before .args .s .now) (c .before .args .node .0) (c .before .args .k) (c .before .pre)
 
 same-length : tie.Need-same-length Inv-loop μ-loop
 same-length c = c .before .before .loop .inv .header .long ∙ sym (c .before .before .before .before .pre .header .long)

@@ -22,7 +22,7 @@ abbrev μ-loop : tie.MeasureT-loop
 μ-loop l s pages₀ path₀ place₀ pages path place = length (left false (shapeOf l) (l .pool) s path)
 
 loop-holds : tie.Need-loop-holds Inv-loop μ-loop
-loop-holds c = let a = c .before .before .args in (start-taking (shapeOf (a .l)) (a .l .pool) (a .s .now) (a .root .0) (a .pages .now) (c .before .before .pre .0) (c .before .before .pre .1), refl)
+loop-holds c = let a = c .before .before .args in (start-taking (shapeOf (a .l)) (a .l .pool) (a .s .now) (a .node .0) (a .pages .now) (c .before .before .pre .0) (c .before .before .pre .1), refl)
 
 sub-at : tie.Need-sub-at Inv-loop μ-loop
 sub-at c = search needs
