@@ -1,22 +1,21 @@
 -- What a reading has left behind, one turn at a time.
 use Prim.Native.Nat.{ℕ, zero, suc, _+_, _-_, _<_, _≤_, zero-le}
 use mathlib.Core.List.{List, [], _∷_, _++_}
-use mathlib.Core.Bool.{Bool, true, false, _&&_, false≢true}
+use mathlib.Core.Bool.{true, false, false≢true}
 use mathlib.Core.Path.{_≡_, refl, sym, ap, _∙_, subst}
 use mathlib.Core.Logic.{_⊎_, inl, inr, ⊎-elim}
 use native.Mathlib.Omega.{arith}
 use native.Mathlib.Nat.{zero-add}
 use lib.Dec.{T, ltb, lt→ltb}
 use borrow.Author.Tests.{lt-ltb, le-ltb, ltb-false}
-use Rattle.model.specs.Words.{Shape, pick, part, height, count, start, end, row, child}
-use Rattle.model.specs.Tree.{Limit, Open, Below, Level, pairsFrom, nodeAt, level, next, last, sound, allPairs, AllSound}
+use Rattle.model.specs.Words.{Shape, height, count, start, end, row, child}
+use Rattle.model.specs.Tree.{Limit, Below, Level, pairsFrom, nodeAt, level, next, last, sound, allPairs, AllSound}
 use Rattle.model.specs.Reading.{passes, nextRow}
 use Rattle.model.specs.Paths.{stack, trail, lastOf, above, turned, entered, rooted}
 use Rattle.model.specs.declared.path.Position.{Position}
 use Rattle.model.specs.declared.path.Path.{Path}
 use Rattle.model.proofs.Tests.{holds, and-l, by-test}
 use Rattle.model.proofs.Sound.{soundly, sound-at}
-use Rattle.model.proofs.Frame.{length-pairs}
 use Rattle.model.proofs.Paths.{stack-pop}
 use Rattle.model.proofs.Writes.{pairs-snoc}
 use Rattle.formed.proofs.Clean.{leaf-rises}

@@ -1,15 +1,15 @@
 -- The loop over the leaves: what it knows at each turn, and what a turn keeps.
-use Prim.Native.Nat.{ℕ, zero, suc, _+_, _-_, _<_, _≤_}
+use Prim.Native.Nat.{ℕ, suc, _+_, _-_, _<_, _≤_}
 use mathlib.Core.List.{List, [], _∷_, _++_, append-nil}
-use mathlib.Core.Bool.{Bool, true, false}
+use mathlib.Core.Bool.{true, false}
 use mathlib.Core.Path.{_≡_, refl, sym, ap, _∙_, subst}
 use native.Mathlib.Omega.{arith}
 use native.Mathlib.Nat.{sub-zero}
 use lib.ListN.{getD, set, length, length-append, drop, replicate}
 use lib.Dec.{eqb}
-use Rattle.model.specs.Words.{Shape, pick, part, height, count, start}
+use Rattle.model.specs.Words.{Shape, pick, height, count, start}
 use Rattle.model.specs.Tree.{Open, nodeAt, level}
-use Rattle.model.specs.Reading.{Visit, Enter, Leave, Bad, passes, visits}
+use Rattle.model.specs.Reading.{Visit, Enter, Leave, passes, visits}
 use Rattle.model.specs.Prune.{Scan, stopped, on, scanLeaf, spoilt, scan, ranOut}
 use Rattle.model.specs.Paths.{noPosition, lastOf, entered, rooted}
 use Rattle.model.specs.declared.path.Position.{Position}
@@ -32,7 +32,7 @@ use Rattle.walk.proofs.Turns.{Held, turnAt, start-held, turn-up, held-up, turn-
 use Rattle.model.specs.Refusals.{Answer, result, refused}
 use Rattle.boundary.specs.Behind.{Passed, BehindPath}
 use Rattle.prefix_leaf.specs.Progress.{Last}
-use Rattle.boundary.specs.Edge.{wentOf, trimsOn, Ended}
+use Rattle.boundary.specs.Edge.{wentOf, trimsOn}
 use Rattle.prefix.specs.Named.{endingOf}
 use Rattle.prefix_leaf.specs.Progress.{stoppedBy, EndsAt}
 use Rattle.prefix_leaf.specs.declared.Named.{Named}

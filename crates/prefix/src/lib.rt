@@ -57,7 +57,7 @@ fn refused(r: Refusal) -> Prefix
 fn scan_below(
     l: Layout,
     s: &[u64],
-    root: NodeNo,
+    node: NodeNo,
     first: u64,
     end: RowID,
     ids: &[u64],
@@ -66,13 +66,13 @@ fn scan_below(
     mut used: u64,
 ) -> Prefix
     requires { ⌜ Fits l (now s) ⌝ }
-    requires { ⌜ Valid (shapeOf l) (l .pool) (now s) (height (shapeOf l) (now s) (root .0)) (entered (root .0) ∷ []) ⌝ }
-    requires { ⌜ first ≡ outOf (shapeOf l) (l .pool) (now s) (height (shapeOf l) (now s) (root .0)) (root .0) ⌝ }
-    requires { ⌜ (Passed (shapeOf l) (l .pool) (now s) (height (shapeOf l) (now s) (root .0)) (root .0) []) × (length (now ids) ≤ place → Last (shapeOf l) (now s) (root .0) used (reached .0)) ⌝ }
-    ensures answer { λ r. ⌜ namedOf (end .0) (r .answer) ≡ ranOut (end .0) (scan (shapeOf l) (now (s .entry)) (end .0) (below false (shapeOf l) (l .pool) (now (s .entry)) (root .0)) (on (drop place (now (ids .entry))) place (reached .0))) ⌝ }
-    ensures edge { λ r. ⌜ Ending (shapeOf l) (l .pool) (now (s .entry)) (end .0) (root .0) r ⌝ }
+    requires { ⌜ Valid (shapeOf l) (l .pool) (now s) (height (shapeOf l) (now s) (node .0)) (entered (node .0) ∷ []) ⌝ }
+    requires { ⌜ first ≡ outOf (shapeOf l) (l .pool) (now s) (height (shapeOf l) (now s) (node .0)) (node .0) ⌝ }
+    requires { ⌜ (Passed (shapeOf l) (l .pool) (now s) (height (shapeOf l) (now s) (node .0)) (node .0) []) × (length (now ids) ≤ place → Last (shapeOf l) (now s) (node .0) used (reached .0)) ⌝ }
+    ensures answer { λ r. ⌜ namedOf (end .0) (r .answer) ≡ ranOut (end .0) (scan (shapeOf l) (now (s .entry)) (end .0) (below false (shapeOf l) (l .pool) (now (s .entry)) (node .0)) (on (drop place (now (ids .entry))) place (reached .0))) ⌝ }
+    ensures edge { λ r. ⌜ Ending (shapeOf l) (l .pool) (now (s .entry)) (end .0) (node .0) r ⌝ }
 {
-    let mut path = Path::rooted(root);
+    let mut path = Path::rooted(node);
     let mut nexts = [Limit::Open; 32];
     let mut firsts = [first; 32];
     let mut left: u64 = 0;
@@ -83,11 +83,12 @@ fn scan_below(
         }
         let at = depth - 1;
         let top = path.positions[at];
+        if turn::is_done(l, s, top) {
+            path.depth = at;
+            left = tally::add(left, 1);
+            continue;
+        }
         match turn::tested(l, s, top, firsts[at], nexts[at]) {
-            Turn::Up => {
-                path.depth = at;
-                left = tally::add(left, 1);
-            }
             Turn::Bad(n) => return refused(Refusal::Unsound(n)),
             Turn::Down(child, beyond, inner) => {
                 path.positions[at] = top.turned();

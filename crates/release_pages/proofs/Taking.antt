@@ -1,12 +1,12 @@
 -- The walk that takes page ids: what it knows at each turn, and what a turn keeps.
 use Prim.Native.Nat.{ℕ, suc, _+_, _<_, _≤_}
 use mathlib.Core.List.{List, [], _∷_, _++_}
-use mathlib.Core.Bool.{true, false}
+use mathlib.Core.Bool.{false}
 use mathlib.Core.Path.{_≡_, refl, sym, ap, _∙_}
 use native.Mathlib.Omega.{arith}
 use lib.ListN.{length, length-append}
 use Rattle.model.specs.Words.{Shape, fill, height}
-use Rattle.model.specs.Reading.{Visit, Leave, Entry, pageIds, rootEntries}
+use Rattle.model.specs.Reading.{Visit, Entry, pageIds, rootEntries}
 use Rattle.model.specs.Paths.{stack, lastOf, entered, rooted}
 use Rattle.model.specs.declared.path.Path.{Path}
 use Rattle.model.proofs.Fill.{fill-append, length-fill}

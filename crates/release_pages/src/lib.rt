@@ -40,12 +40,12 @@ fn copy_leaf(l: Layout, s: &[u64], n: NodeNo, pages: &mut [u64], at: usize) -> u
 }
 
 // The page ids of a sound tree go into the list, left to right: those of a leaf as the walk leaves it.
-pub fn copy_tree(l: Layout, s: &[u64], root: NodeNo, pages: &mut [u64])
-    requires { ⌜ Releasable (shapeOf l) (l .pool) (now s) (root .0) 0 ⌝ }
-    requires { ⌜ length (rootEntries (shapeOf l) (now s) (root .0)) ≤ length (now pages) ⌝ }
-    ensures { λ _. ⌜ now (pages .exit) ≡ fill (now (pages .entry)) 0 (pageIds (rootEntries (shapeOf l) (now (s .entry)) (root .0))) ⌝ }
+pub fn copy_tree(l: Layout, s: &[u64], node: NodeNo, pages: &mut [u64])
+    requires { ⌜ Releasable (shapeOf l) (l .pool) (now s) (node .0) 0 ⌝ }
+    requires { ⌜ length (rootEntries (shapeOf l) (now s) (node .0)) ≤ length (now pages) ⌝ }
+    ensures { λ _. ⌜ now (pages .exit) ≡ fill (now (pages .entry)) 0 (pageIds (rootEntries (shapeOf l) (now (s .entry)) (node .0))) ⌝ }
 {
-    let mut path = Path::rooted(root);
+    let mut path = Path::rooted(node);
     let mut place: usize = 0;
     while 0 < path.depth {
         let depth = path.depth;

@@ -1,20 +1,16 @@
 -- The reading from the root, by cases of the root.
-use Prim.Native.Nat.{ℕ, zero, suc, _+_, _-_, _<_, _≤_}
-use mathlib.Core.List.{List, [], _∷_, _++_, append-nil}
+use Prim.Native.Nat.{ℕ, suc, _<_}
+use mathlib.Core.List.{List, [], _∷_, append-nil}
 use mathlib.Core.Bool.{Bool, true, false}
-use mathlib.Core.Path.{_≡_, refl, sym, ap, _∙_}
-use native.Mathlib.Omega.{arith}
-use lib.Dec.{leb, ltb}
-use borrow.Author.Tests.{le-leb}
-use Rattle.model.specs.Words.{Shape, pick, part, height, count, start, maxHeight}
-use Rattle.model.specs.Tree.{Limit, Open, nodeAt, emptyRoot, level}
-use Rattle.model.specs.Reading.{Visit, Enter, Leave, Bad, passes, visits, rootVisits}
-use Rattle.model.specs.Paths.{entered}
+use mathlib.Core.Path.{_≡_, sym, _∙_}
+use lib.Dec.{leb}
+use Rattle.model.specs.Words.{Shape, height, start, maxHeight}
+use Rattle.model.specs.Tree.{Open, nodeAt, emptyRoot, level}
+use Rattle.model.specs.Reading.{Enter, passes, visits, rootVisits}
 use Rattle.walk.specs.Left.{bound, rest, below}
 use Rattle.walk.proofs.Rest.{child-bad, child-good}
 use Rattle.tally.specs.Tally.{counted, tally}
 use Rattle.tally.specs.declared.Counts.{Counts}
-use Rattle.tally.specs.declared.Survey.{Survey}
 use Rattle.tally.specs.declared.Survey.the-variants.{Unsound, Counted}
 
 module _ (ends : Bool) (C : Shape) (P : ℕ) (w : List ℕ) (n : ℕ) (k : Counts) where

@@ -1,5 +1,5 @@
 -- Both readings in one walk: the one with ends goes along with the one without, until a wrong end is seen.
-use Prim.Native.Nat.{ℕ, zero, suc, _+_, _-_, _<_, _≤_}
+use Prim.Native.Nat.{ℕ, _<_, _≤_}
 use mathlib.Core.List.{List, [], _∷_}
 use mathlib.Core.Bool.{Bool, true, false}
 use mathlib.Core.Path.{_≡_, refl, sym, ap, _∙_}
@@ -7,7 +7,7 @@ use native.Mathlib.Omega.{arith}
 use lib.Dec.{leb, ltb}
 use borrow.Author.Tests.{lt-ltb, le-ltb, ltb-true, ltb-false}
 use lib.ListN.{set, replicate}
-use Rattle.model.specs.Words.{Shape, pick, part, height, start, end, maxHeight}
+use Rattle.model.specs.Words.{Shape, height, start, end, maxHeight}
 use Rattle.model.specs.Tree.{Open, nodeAt, emptyRoot}
 use Rattle.model.specs.Tree as Tree
 use Rattle.model.specs.Reading.{Visit, endFits, passes, rootVisits}

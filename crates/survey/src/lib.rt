@@ -72,18 +72,18 @@ fn both(l: Layout, nodes: Survey, wrong: NodeNo) -> Surveys
 fn survey_below(
     l: Layout,
     s: &[u64],
-    root: NodeNo,
+    node: NodeNo,
     first: u64,
     start: Counts,
     seen: NodeNo,
 ) -> Surveys
     requires { ⌜ Fits l (now s) ⌝ }
-    requires { ⌜ Valid (shapeOf l) (l .pool) (now s) (height (shapeOf l) (now s) (root .0)) (entered (root .0) ∷ []) ⌝ }
-    requires { ⌜ first ≡ outOf (shapeOf l) (l .pool) (now s) (height (shapeOf l) (now s) (root .0)) (root .0) ⌝ }
-    ensures nodes { λ r. ⌜ r .nodes ≡ tally (shapeOf l) (now (s .entry)) (below false (shapeOf l) (l .pool) (now (s .entry)) (root .0)) start ⌝ }
-    ensures ends { λ r. ⌜ r .ends ≡ withEnds (l .pool) (seen .0) (tally (shapeOf l) (now (s .entry)) (below true (shapeOf l) (l .pool) (now (s .entry)) (root .0)) start) ⌝ }
+    requires { ⌜ Valid (shapeOf l) (l .pool) (now s) (height (shapeOf l) (now s) (node .0)) (entered (node .0) ∷ []) ⌝ }
+    requires { ⌜ first ≡ outOf (shapeOf l) (l .pool) (now s) (height (shapeOf l) (now s) (node .0)) (node .0) ⌝ }
+    ensures nodes { λ r. ⌜ r .nodes ≡ tally (shapeOf l) (now (s .entry)) (below false (shapeOf l) (l .pool) (now (s .entry)) (node .0)) start ⌝ }
+    ensures ends { λ r. ⌜ r .ends ≡ withEnds (l .pool) (seen .0) (tally (shapeOf l) (now (s .entry)) (below true (shapeOf l) (l .pool) (now (s .entry)) (node .0)) start) ⌝ }
 {
-    let mut path = Path::rooted(root);
+    let mut path = Path::rooted(node);
     let mut bounded = [false; 32];
     let mut rows = [0; 32];
     let mut firsts = [first; 32];
@@ -93,9 +93,12 @@ fn survey_below(
         let depth = path.depth;
         let at = depth - 1;
         let top = path.positions[at];
+        if turn::is_done(l, s, top) {
+            path.depth = at;
+            continue;
+        }
         let next = walk_limit::limit(bounded[at], rows[at]);
         match turn::tested(l, s, top, firsts[at], next) {
-            Turn::Up => path.depth = at,
             Turn::Bad(n) => return both(l, Survey::Unsound(n), wrong),
             Turn::Down(child, beyond, inner) => {
                 path.positions[at] = top.turned();

@@ -1,24 +1,23 @@
 -- What a turn tells of its position.
-use Prim.Native.Nat.{ℕ, zero, suc, _+_, _-_, _<_, _≤_}
-use mathlib.Core.List.{List, [], _∷_}
-use mathlib.Core.Bool.{Bool, true, false, _&&_, false≢true}
-use mathlib.Core.Path.{_≡_, refl, sym, ap, _∙_}
+use Prim.Native.Nat.{ℕ, _-_, _<_, _≤_}
+use mathlib.Core.List.{List}
+use mathlib.Core.Bool.{Bool, true, false, false≢true}
+use mathlib.Core.Path.{_≡_, sym, ap, _∙_}
 use mathlib.Core.Logic.{_⊎_, inl, inr}
 use native.Mathlib.Omega.{arith}
 use lib.Dec.{ltb}
 use borrow.Author.Tests.{ltb-true, ltb-false}
-use Rattle.model.specs.Words.{Shape, pick, part, height, count, row, child, childPlace}
+use Rattle.model.specs.Words.{Shape, height, count, row, child, childPlace}
 use Rattle.model.specs.Tree.{Limit, nodeAt}
-use Rattle.model.specs.Reading.{Visit, Leave, passes, nextRow}
+use Rattle.model.specs.Reading.{Leave, passes, nextRow}
 use Rattle.model.specs.Paths.{trail, lastOf, above}
 use Rattle.model.specs.declared.id.NodeNo.{NodeNo}
 use Rattle.model.specs.declared.path.Path.{Path}
 use Rattle.model.proofs.Tests.{by-test}
 use Rattle.model.proofs.Frame.{Same}
 use Rattle.walk.specs.Left.{ValidPath, Moves}
-use Rattle.walk.specs.declared.turn.Step.{Step}
 use Rattle.walk.specs.declared.turn.Step.the-variants.{Up, Down}
-use Rattle.walk.specs.Turn.{hasChild, outOf, Turning, up, down, bad, entering, turning, stepping}
+use Rattle.walk.specs.Turn.{hasChild, outOf, up, down, bad, entering, turning, stepping}
 use Rattle.walk.proofs.Moves.{leaf-move, end-move}
 use Rattle.walk.proofs.Tests.{branch}
 

@@ -1,16 +1,15 @@
 -- A path that is stored to in place: what its positions are after each kind of turn.
-use Prim.Native.Nat.{ℕ, zero, suc, _+_, _-_, _<_, _≤_}
+use Prim.Native.Nat.{ℕ, _+_, _-_, _<_, _≤_}
 use mathlib.Core.Bool.{Bool}
 use mathlib.Core.List.{List, [], _∷_}
-use mathlib.Core.Path.{_≡_, refl, sym, ap, _∙_}
-use mathlib.Core.Logic.{_≢_}
+use mathlib.Core.Path.{_≡_, refl, ap, _∙_}
 use native.Mathlib.Omega.{arith}
 use lib.ListN.{getD, set, length, length-set, replicate}
 use lib.Seq.{getD-set-same, getD-set-other}
 use Rattle.model.specs.Paths.{noPosition, stack, trail, lastOf, above, turned, entered, rooted}
 use Rattle.model.specs.declared.path.Position.{Position}
 use Rattle.model.specs.declared.path.Path.{Path}
-use Rattle.model.specs.Words.{Shape, part, height}
+use Rattle.model.specs.Words.{Shape, height}
 use Rattle.walk.specs.Left.{below, Valid, left}
 use Rattle.walk.proofs.Rest.{left-is}
 use Rattle.model.proofs.Paths.{stack-set, stack-push, stack-turn}

@@ -1,24 +1,23 @@
 -- What a path has left to visit, one visit at a time.
-use Prim.Native.Nat.{ℕ, zero, suc, _+_, _-_, _<_, _≤_, zero-le}
+use Prim.Native.Nat.{ℕ, suc, _+_, _-_, _<_, _≤_, zero-le}
 use mathlib.Core.List.{List, [], _∷_, _++_, append-assoc}
-use mathlib.Core.Bool.{Bool, true, false, _&&_}
-use mathlib.Core.Path.{_≡_, refl, sym, ap, _∙_, subst}
+use mathlib.Core.Bool.{Bool, true, false}
+use mathlib.Core.Path.{_≡_, refl}
 use native.Mathlib.Omega.{arith}
 use native.Mathlib.Nat.{sub-zero}
-use lib.Dec.{T, ltb, leb, eqb}
+use lib.Dec.{ltb}
 use borrow.Author.Tests.{lt-ltb, le-ltb, ltb-true, ltb-false}
-use Rattle.model.specs.Words.{Shape, pick, part, height, count, start, end, row, child, maxHeight}
-use Rattle.model.specs.Tree.{Node, Limit, Open, Below, Level, pairsFrom, nodeWith, nodeAt, level, next, last, sound, overPairs}
-use Rattle.model.specs.Reading.{Visit, Enter, Leave, Bad, endFits, passes, visits, nextRow}
-use Rattle.model.specs.Paths.{stack, trail, lastOf, above, turned, entered}
+use Rattle.model.specs.Words.{Shape, pick, height, count, start, end, row, child, maxHeight}
+use Rattle.model.specs.Tree.{Limit, Open, pairsFrom, nodeWith, nodeAt, level, next, last, sound, overPairs}
+use Rattle.model.specs.Reading.{Enter, Leave, Bad, endFits, passes, visits, nextRow}
+use Rattle.model.specs.Paths.{trail, lastOf, above, turned, entered}
 use Rattle.model.specs.declared.path.Position.{Position}
 use Rattle.model.specs.declared.path.Path.{Path}
-use Rattle.model.proofs.Tests.{by-test, and-l, is-true, holds}
+use Rattle.model.proofs.Tests.{by-test, and-l, holds}
 use Rattle.model.proofs.Sound.{soundly, sound-at}
 use Rattle.model.proofs.Frame.{length-pairs}
 use Rattle.model.proofs.Paths.{stack-pop, stack-none}
-use Rattle.walk.specs.Left.{bound, rest, Valid, lowest, left, ValidPath}
-use Rattle.walk.proofs.Valid.{Top, valid-top}
+use Rattle.walk.specs.Left.{bound, rest, Valid, lowest, left}
 
 -- what is next after entry i of node n
 pub bound-turned : (C : Shape) (w : List ℕ) (p : Position) (up : List Position) → bound C w (turned p ∷ up) ≡ nextRow C w (p .node .0) (p .index) (bound C w up)

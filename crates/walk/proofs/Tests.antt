@@ -1,21 +1,21 @@
 -- The tests of a turn in the terms of the code.
-use Prim.Native.Nat.{ℕ, zero, suc, _+_, _-_, _<_, _≤_}
+use Prim.Native.Nat.{ℕ, _+_, _-_, _<_, _≤_}
 use mathlib.Core.List.{List}
-use mathlib.Core.Bool.{Bool, true, false, _&&_, and-true, false≢true}
-use mathlib.Core.Path.{_≡_, refl, sym, ap, _∙_}
+use mathlib.Core.Bool.{true, false, and-true, false≢true}
+use mathlib.Core.Path.{_≡_, sym, _∙_}
 use native.Mathlib.Omega.{arith}
 use lib.Dec.{ltb}
 use borrow.Author.Tests.{lt-ltb, le-ltb, ltb-true, ltb-false}
-use Rattle.model.specs.Words.{Shape, pick, part, height, count, row, child}
+use Rattle.model.specs.Words.{Shape, pick, height, count, row, child}
 use Rattle.model.specs.Tree.{Limit, Below, nodeAt, sound}
 use Rattle.model.specs.Reading.{passes, nextRow}
 use Rattle.model.proofs.Tests.{by-test}
-use Rattle.node_test.specs.Test.{firstOut, nodeTest}
+use Rattle.node_test.specs.Test.{nodeTest}
 use Rattle.node_test.specs.declared.NodeTest.{NodeTest}
 use Rattle.node_test.specs.declared.NodeTest.the-variants.{Unsound, Sound}
 use Rattle.model.specs.declared.path.Position.{Position}
 use Rattle.walk.specs.declared.turn.Step.the-variants.{Up, Down}
-use Rattle.walk.specs.Turn.{hasChild, outOf, Placed, Turning, up, down, bad, entering, turning, stepping}
+use Rattle.walk.specs.Turn.{hasChild, outOf, Placed, up, down, bad, entering, turning, stepping}
 use Rattle.walk.proofs.Outs.{in-range, out-range}
 
 module _ (C : Shape) (P : ℕ) (w : List ℕ) (n h r : ℕ) (b : Limit) where

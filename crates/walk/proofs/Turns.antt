@@ -1,7 +1,7 @@
 -- A path that is stored to in place with what stands beside its positions, and what a turn keeps of it.
-use Prim.Native.Nat.{ℕ, zero, suc, _+_, _-_, _<_, _≤_, zero-le}
+use Prim.Native.Nat.{ℕ, suc, _-_, _<_, _≤_, zero-le}
 use mathlib.Core.List.{List, [], _∷_}
-use mathlib.Core.Bool.{Bool, true, false, _&&_, and-true}
+use mathlib.Core.Bool.{Bool, true, false, not, _&&_, and-true}
 use mathlib.Core.Path.{_≡_, refl, sym, ap, _∙_, subst}
 use mathlib.Core.Logic.{⊎-elim}
 use native.Mathlib.Omega.{arith}
@@ -9,8 +9,8 @@ use native.Mathlib.Nat.{eq-or-lt-of-le}
 use lib.ListN.{getD, set, length, length-set, replicate}
 use lib.Seq.{getD-set-same, getD-set-other}
 use lib.Dec.{T, ltb}
-use borrow.Author.Tests.{ltb-true, ltb-false}
-use Rattle.model.specs.Words.{Shape, pick, part, height, count, end, row, child}
+use borrow.Author.Tests.{ltb-true, ltb-false, not-true}
+use Rattle.model.specs.Words.{Shape, pick, height, count, end, row, child}
 use Rattle.model.specs.Tree.{Node, nodeAt, sound}
 use Rattle.model.specs.Tree as Tree
 use Rattle.model.specs.Reading.{Visit, Enter, Leave, Bad, endFits, passes, nextRow}
@@ -18,18 +18,18 @@ use Rattle.model.specs.Paths.{noPosition, stack, lastOf, above, turned, entered
 use Rattle.model.specs.declared.path.Position.{Position}
 use Rattle.model.specs.declared.path.Path.{Path}
 use Rattle.model.proofs.Tests.{by-test}
+use Rattle.formed.specs.Visits.{clean}
 use Rattle.node_test.specs.Test.{limitOf}
 use Rattle.node_test.specs.declared.Limit.{Limit}
-use Rattle.node_test.specs.declared.Limit.the-variants.{Open, Below}
-use Rattle.formed.specs.Visits.{clean}
+use Rattle.node_test.specs.declared.Limit.the-variants.{Open}
 use Rattle.walk.specs.Left.{bound, left, Valid, ValidPath, Moves}
 use Rattle.walk.specs.declared.turn.Step.the-variants.{Up, Down}
 use Rattle.walk.specs.Turn.{hasChild, outOf, Placed, Turning, up, down, bad, turning, stepping}
 use Rattle.walk.proofs.Valid.{Top, valid-top, valid-path}
 use Rattle.walk.proofs.Rest.{bound-turned, passes-fits}
 use Rattle.walk.proofs.Moves.{far-move, bad-move, enter-move}
-use Rattle.walk.proofs.Tests.{branch, before}
-use Rattle.walk.proofs.Branch.{Went, Barred, left-it, went, barred, step-out, step-in, move-out}
+use Rattle.walk.proofs.Tests.{branch, turns-up, before}
+use Rattle.walk.proofs.Branch.{Went, left-it, went, barred, step-out, step-in, move-out}
 use Rattle.walk.proofs.InPlace.{popped, turnedPath, enteredPath, turned-trail, entered-trail, entered-length, entered-above, entered-other, entered-under, entered-turned, entered-last}
 
 -- what is left gets shorter
@@ -95,7 +95,10 @@ module _ {C : Shape} {P : ℕ} {w : List ℕ} {p : Path} {nexts : List Limit} {f
   pub placed : Placed C P w (lastOf p) (getD firsts (p .depth - 1) 0)
   placed = record { inside = top .inside; narrow = top .narrow; first-is = B .first-is; ahead = B .ahead }
 
-  -- the last node is left
+  -- a node that is done is left
+  pub done-up : not (hasChild C w (lastOf p .node .0) (lastOf p .index)) ≡ true → up ≡ turnAt C P w p nexts
+  done-up e = sym (turns-up C P w (lastOf p) b₀ (not-true (hasChild C w n i) e))
+
   module _ (e : up ≡ turnAt C P w p nexts) where
     pub turn-up : (ends : Bool) → Moves ends C P w p (Leave (lastOf p .node .0)) (popped p)
     turn-up ends = move-out ends C P w p (H .valid) z (popped p) (left-it C P w n i b₀ e) refl

@@ -1,12 +1,12 @@
 -- What a valid path says of its last position.
 use Prim.Native.Nat.{ℕ, zero, suc, _+_, _-_, _<_, _≤_, zero-le}
 use mathlib.Core.List.{List, [], _∷_}
-use mathlib.Core.Path.{_≡_, refl, sym, subst}
+use mathlib.Core.Path.{_≡_, sym, subst}
 use native.Mathlib.Omega.{arith}
 use lib.ListN.{getD}
 use lib.Dec.{ltb}
-use Rattle.model.specs.Words.{Shape, pick, part, height, count, row}
-use Rattle.model.specs.Tree.{Limit, Open, Below}
+use Rattle.model.specs.Words.{Shape, pick, height, count, row}
+use Rattle.model.specs.Tree.{Open, Below}
 use Rattle.model.specs.Paths.{noPosition, stack, trail, lastOf, above}
 use Rattle.model.specs.declared.path.Position.{Position}
 use Rattle.model.specs.declared.path.Path.{Path}

@@ -1,13 +1,13 @@
 -- What a path has left to visit, on any words.
-use Prim.Native.Nat.{ℕ, zero, suc, _+_, _*_, _-_, _<_, _≤_}
+use Prim.Native.Nat.{ℕ, suc, _+_, _-_, _<_, _≤_}
 use mathlib.Core.List.{List, [], _∷_, _++_}
 use mathlib.Core.Path.{_≡_}
-use mathlib.Core.Bool.{Bool, true, false, _&&_}
-use lib.Dec.{leb, ltb, eqb}
-use Rattle.model.specs.Words.{Shape, pick, part, height, count, start, end, row, child}
-use Rattle.model.specs.Tree.{Limit, Open, Below, pairsFrom, nodeAt, level, last, overPairs}
-use Rattle.model.specs.Reading.{Visit, Enter, Leave, Bad, passes, visits, nextRow}
-use Rattle.model.specs.Paths.{stack, trail, entered}
+use mathlib.Core.Bool.{Bool}
+use lib.Dec.{ltb}
+use Rattle.model.specs.Words.{Shape, pick, height, count, end, row}
+use Rattle.model.specs.Tree.{Limit, Open, Below, pairsFrom, level, last, overPairs}
+use Rattle.model.specs.Reading.{Visit, Leave, visits}
+use Rattle.model.specs.Paths.{trail, entered}
 use Rattle.model.specs.declared.path.Position.{Position}
 use Rattle.model.specs.declared.path.Path.{Path}
 

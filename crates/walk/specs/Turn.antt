@@ -1,16 +1,16 @@
 -- One turn of the walk, and its parts.
-use Prim.Native.Nat.{ℕ, zero, suc, _+_, _-_, _<_, _≤_}
-use mathlib.Core.List.{List, [], _∷_}
-use mathlib.Core.Bool.{Bool, true, false, _&&_}
+use Prim.Native.Nat.{ℕ, _-_, _<_, _≤_}
+use mathlib.Core.List.{List}
+use mathlib.Core.Bool.{Bool, false, _&&_}
 use mathlib.Core.Path.{_≡_}
 use lib.Dec.{ltb, eqb}
-use Rattle.model.specs.Words.{Shape, pick, part, height, count, row, child}
+use Rattle.model.specs.Words.{Shape, pick, height, count, row, child}
 use Rattle.model.specs.Tree.{Limit, nodeAt}
 use Rattle.model.specs.Reading.{passes, nextRow}
 use Rattle.model.specs.declared.path.Position.{Position}
 use Rattle.node_test.specs.Test.{limitOf, firstOut}
 use Rattle.walk.specs.declared.turn.Turn.{Turn}
-use Rattle.walk.specs.declared.turn.Turn.the-variants.{Up, Down, Bad}
+use Rattle.walk.specs.declared.turn.Turn.the-variants.{Down, Bad}
 use Rattle.walk.specs.declared.turn.Step.{Step}
 use Rattle.walk.specs.declared.turn.Step.the-variants as Steps
 
@@ -35,7 +35,6 @@ pub data Turning : Type 0 where
   bad : ℕ → Turning
 
 abbrev pub turnOf : Turn → Turning
-turnOf Up = up
 turnOf (Down n b first) = down (n .0) (limitOf b) first
 turnOf (Bad n) = bad (n .0)
 

@@ -1,12 +1,13 @@
 // One turn of the walk, and its parts.
 
 ghost use mathlib.Core.Path.{_≡_};
+ghost use mathlib.Core.Bool.{not, true};
 ghost use Prim.Native.Nat.{_+_, _-_, _≤_, _<_};
-ghost use Rattle.model.specs.Words.{child, count, height};
+ghost use Rattle.model.specs.Words.{count};
 ghost use Rattle.model.specs.Reading.{nextRow};
 ghost use Rattle.node.specs.Layout.{Fits, shapeOf};
 ghost use Rattle.node_test.specs.Test.{limitOf};
-ghost use Rattle.walk.specs.Turn.{Placed, entering, hasChild, stepping, turnOf, turning};
+ghost use Rattle.walk.specs.Turn.{Placed, hasChild, stepping, turnOf, turning};
 use model::id::NodeNo;
 use model::path::Position;
 use node::layout::Layout;
@@ -40,46 +41,42 @@ pub fn next_row(l: Layout, s: &[u64], n: NodeNo, i: u64, next: Limit) -> Limit
     next
 }
 
-// The node is left; a child is entered, with what is next for it and the first of its child numbers out of range; or a
-// node is unsound.
+// Whether the node at a position has no child left, so that it is left.
+pub fn is_done(l: Layout, s: &[u64], at: Position) -> bool
+    requires { ⌜ Fits l (now s) ⌝ }
+    requires { ⌜ at .node .0 < l .pool ⌝ }
+    ensures { λ r. ⌜ r ≡ not (hasChild (shapeOf l) (now (s .entry)) (at .node .0) (at .index)) ⌝ }
+{
+    let node = at.node;
+    !has_child(l, s, node, at.index)
+}
+
+// A child is entered, with what is next for it and the first of its child numbers out of range; or a node is unsound.
 pub enum Turn {
-    Up,
     Down(NodeNo, Limit, u64),
     Bad(NodeNo),
 }
 
-// Child i of branch n, whose number is in range.
-fn enter(l: Layout, s: &[u64], n: NodeNo, i: u64, next: Limit) -> Turn
-    requires { ⌜ Fits l (now s) ⌝ }
-    requires { ⌜ (n .0 < l .pool) × (0 < height (shapeOf l) (now s) (n .0)) × (i < count (shapeOf l) (now s) (n .0)) × (count (shapeOf l) (now s) (n .0) ≤ l .capacity) × (child (shapeOf l) (now s) (n .0) i < l .pool) ⌝ }
-    ensures { λ r. ⌜ turnOf r ≡ entering (shapeOf l) (l .pool) (now (s .entry)) (n .0) i (limitOf next) ⌝ }
-{
-    let h = l.header(s, n);
-    let row = l.row(s, n, i);
-    let child = l.child(s, n, i);
-    let beyond = next_row(l, s, n, i, next);
-    match node_test::test_node(l, s, child, h.height - 1, row, beyond) {
-        NodeTest::Sound(first) => Turn::Down(child, beyond, first),
-        NodeTest::Unsound => Turn::Bad(child),
-    }
-}
-
-// The turn at a position, with the first of its node's child numbers out of range and what is next for the node.
+// The turn at a position that is not done, with the first of its node's child numbers out of range and what is next for
+// the node. A loop asks is_done by itself: half of its turns are done, and need no call.
 pub fn tested(l: Layout, s: &[u64], at: Position, first: u64, next: Limit) -> Turn
     requires { ⌜ Fits l (now s) ⌝ }
-    requires { ⌜ Placed (shapeOf l) (l .pool) (now s) at first ⌝ }
+    requires { ⌜ Placed (shapeOf l) (l .pool) (now s) at first × (hasChild (shapeOf l) (now s) (at .node .0) (at .index) ≡ true) ⌝ }
     ensures { λ r. ⌜ turnOf r ≡ turning (shapeOf l) (l .pool) (now (s .entry)) (at .node .0) (at .index) (limitOf next) ⌝ }
 {
     let node = at.node;
     let index = at.index;
-    let more = has_child(l, s, node, index);
-    if !more {
-        return Turn::Up;
-    }
     if first <= index {
         return Turn::Bad(node);
     }
-    enter(l, s, node, index, next)
+    let h = l.header(s, node);
+    let row = l.row(s, node, index);
+    let child = l.child(s, node, index);
+    let beyond = next_row(l, s, node, index, next);
+    match node_test::test_node(l, s, child, h.height - 1, row, beyond) {
+        NodeTest::Sound(inner) => Turn::Down(child, beyond, inner),
+        NodeTest::Unsound => Turn::Bad(child),
+    }
 }
 
 // The node is left, or a child is entered.
@@ -94,11 +91,9 @@ pub fn untested(l: Layout, s: &[u64], at: Position) -> Step
     requires { ⌜ (at .node .0 < l .pool) × (count (shapeOf l) (now s) (at .node .0) ≤ l .capacity) ⌝ }
     ensures { λ r. ⌜ r ≡ stepping (shapeOf l) (now (s .entry)) (at .node .0) (at .index) ⌝ }
 {
-    let node = at.node;
-    let index = at.index;
-    let more = has_child(l, s, node, index);
-    if !more {
+    if is_done(l, s, at) {
         return Step::Up;
     }
-    Step::Down(l.child(s, node, index))
+    let node = at.node;
+    Step::Down(l.child(s, node, at.index))
 }

@@ -1,8 +1,8 @@
 use borrow.Author.Needs.{needs}
 use mathlib.Core.Bool.{false}
-use mathlib.Core.Path.{_≡_, sym, ap, _∙_}
+use mathlib.Core.Path.{sym, ap, _∙_}
 use Rattle.node.specs.Layout.{shapeOf}
-use Rattle.model.specs.Words.{part, height, start}
+use Rattle.model.specs.Words.{height, start}
 use Rattle.model.specs.Tree.{Open}
 use Rattle.model.specs.Refusals.{refusal}
 use Rattle.model.specs.Prune.{Scan, on, scan, ranOut}

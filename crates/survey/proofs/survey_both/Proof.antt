@@ -1,12 +1,11 @@
 use borrow.Author.Needs.{needs}
-use Prim.Native.Nat.{_≤_}
 use mathlib.Core.Bool.{true, false}
-use mathlib.Core.Path.{_≡_, refl, sym, ap, _∙_}
+use mathlib.Core.Path.{_≡_, sym, ap, _∙_}
 use native.Mathlib.Omega.{arith}
 use borrow.Author.Tests.{not-true, not-false, leb-true}
 use lib.Dec.{leb}
 use Rattle.node.specs.Layout.{shapeOf}
-use Rattle.model.specs.Words.{part, height, count, start, maxHeight}
+use Rattle.model.specs.Words.{height, start, maxHeight}
 use Rattle.model.specs.Tree.{Open, nodeAt}
 use Rattle.model.specs.declared.node.RowPageIndexNodeHeader.{RowPageIndexNodeHeader}
 use Rattle.formed.proofs.Rooted.{empty-of}

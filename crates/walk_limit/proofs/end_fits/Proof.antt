@@ -1,7 +1,5 @@
 use borrow.Author.Needs.{needs}
-use mathlib.Core.Path.{sym, _∙_, ap}
-use Rattle.model.specs.Reading.{endFits}
-use Rattle.node_test.specs.Test.{limitOf}
+use mathlib.Core.Path.{sym}
 use Rattle.walk_limit.proofs.Ends.{ends-leaf, ends-none, ends-open, ends-below}
 use Rattle.walk_limit.proofs.end_fits.Statement.{statement}
 use Rattle.walk_limit.proofs.end_fits.Tie as tie
