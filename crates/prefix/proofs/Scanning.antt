@@ -82,7 +82,7 @@ module _ {C : Shape} {P : ℕ} {w : List ℕ} {e root : ℕ} {ids : List ℕ} {S
             seen = G .seen ++ (Leave (lastOf p .node .0) ∷ []);
             walked = walked-out (G .walked) z (turn-up (G .held) z f false);
             went = λ d. (left-append (G .seen) (Leave (lastOf p .node .0) ∷ []) ∙ ap (λ (ns : List ℕ). ns ++ (lastOf p .node .0 ∷ [])) (G .went z)
-            ∙ sym (went-popped C P w p z root (at-last C P w root p z (G .behind)) (omega arith) (no-more C w (lastOf p .node .0) (lastOf p .index) (left-it C P w (lastOf p .node .0) (lastOf p .index) (limitOf (getD nexts (p .depth - 1) L.Open)) f))));
+                ∙ sym (went-popped C P w p z root (at-last C P w root p z (G .behind)) (omega arith) (no-more C w (lastOf p .node .0) (lastOf p .index) (left-it C P w (lastOf p .node .0) (lastOf p .index) (limitOf (getD nexts (p .depth - 1) L.Open)) f))));
             counted = rw (G .counted, few-more (length (lefts (G .seen)))) (ap few (sym (ap (λ (ns : List ℕ). length ns) (left-append (G .seen) (Leave (lastOf p .node .0) ∷ [])) ∙ length-append (lefts (G .seen)) (lastOf p .node .0 ∷ []))));
           }
 

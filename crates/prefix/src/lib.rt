@@ -64,10 +64,11 @@ fn scan_below(
     mut place: usize,
     mut reached: RowID,
     mut used: u64,
+    mut left: u64,
 ) -> Prefix
     requires { ⌜ Fits l (now s) ⌝ }
     requires { ⌜ Valid (shapeOf l) (l .pool) (now s) (height (shapeOf l) (now s) (node .0)) (entered (node .0) ∷ []) ⌝ }
-    requires { ⌜ first ≡ outOf (shapeOf l) (l .pool) (now s) (height (shapeOf l) (now s) (node .0)) (node .0) ⌝ }
+    requires { ⌜ (first ≡ outOf (shapeOf l) (l .pool) (now s) (height (shapeOf l) (now s) (node .0)) (node .0)) × (left ≡ 0) ⌝ }
     requires { ⌜ (Passed (shapeOf l) (l .pool) (now s) (height (shapeOf l) (now s) (node .0)) (node .0) []) × (length (now ids) ≤ place → Last (shapeOf l) (now s) (node .0) used (reached .0)) ⌝ }
     ensures answer { λ r. ⌜ namedOf (end .0) (r .answer) ≡ ranOut (end .0) (scan (shapeOf l) (now (s .entry)) (end .0) (below false (shapeOf l) (l .pool) (now (s .entry)) (node .0)) (on (drop place (now (ids .entry))) place (reached .0))) ⌝ }
     ensures edge { λ r. ⌜ Ending (shapeOf l) (l .pool) (now (s .entry)) (end .0) (node .0) r ⌝ }
@@ -75,7 +76,6 @@ fn scan_below(
     let mut path = Path::rooted(node);
     let mut nexts = [Limit::Open; 32];
     let mut firsts = [first; 32];
-    let mut left: u64 = 0;
     while place < ids.len() {
         let depth = path.depth;
         if depth == 0 {
@@ -126,6 +126,6 @@ pub fn scan_tree(l: Layout, s: &[u64], root: NodeNo, first: u64, end: RowID, ids
 {
     match prefix_leaf::scan_node(l, s, root, end, ids, 0, RowID(0)) {
         Progress::Stopped(r) => refused(r),
-        Progress::On(p, c) => scan_below(l, s, root, first, end, ids, p, c, p as u64),
+        Progress::On(p, c) => scan_below(l, s, root, first, end, ids, p, c, p as u64, 0),
     }
 }

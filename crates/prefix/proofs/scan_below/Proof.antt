@@ -19,11 +19,11 @@ use Rattle.prefix.proofs.scan_below.Statement.{statement}
 use Rattle.prefix.proofs.scan_below.Tie as tie
 
 abbrev Inv-loop : tie.InvT-loop
-Inv-loop l s first end ids place₀ reached₀ used₀ path₀ nexts₀ firsts₀ nodes₀ place reached used path nexts firsts nodes =
+Inv-loop l s first end ids place₀ reached₀ used₀ nodes₀ path₀ nexts₀ firsts₀ place reached used nodes path nexts firsts =
     Scanning (shapeOf l) (l .pool) s (end .0) (lastOf path₀ .node .0) ids (ranOut (end .0) (scan (shapeOf l) s (end .0) (below false (shapeOf l) (l .pool) s (lastOf path₀ .node .0)) (on (drop place₀ ids) place₀ (reached₀ .0)))) path nexts firsts place (reached .0) used nodes
 
 abbrev μ-loop : tie.MeasureT-loop
-μ-loop l s first end ids place₀ reached₀ used₀ path₀ nexts₀ firsts₀ nodes₀ place reached used path nexts firsts nodes = length (left false (shapeOf l) (l .pool) s path)
+μ-loop l s first end ids place₀ reached₀ used₀ nodes₀ path₀ nexts₀ firsts₀ place reached used nodes path nexts firsts = length (left false (shapeOf l) (l .pool) s path)
 
 rooted-requires : tie.Need-rooted-requires Inv-loop μ-loop
 rooted-requires c κs = search needs
@@ -35,7 +35,7 @@ loop-holds : tie.Need-loop-holds Inv-loop μ-loop
 loop-holds c =
     let a = c .before .before .before .args in
     let p = c .before .before .before .pre .1 in
-    rw (c .rooted .ensures) (start-scanning (shapeOf (a .l)) (a .l .pool) (a .s .now) (a .end .0) (a .ids .now) (a .node .0) (a .first) (a .place) (a .reached .0) (a .used) (p .0) (p .1 .0) (p .1 .1 .0) (p .1 .1 .1))
+    rw (c .rooted .ensures, p .1 .0 .1) (start-scanning (shapeOf (a .l)) (a .l .pool) (a .s .now) (a .end .0) (a .ids .now) (a .node .0) (a .first) (a .place) (a .reached .0) (a .used) (p .0) (p .1 .0 .0) (p .1 .1 .0) (p .1 .1 .1))
 
 refused-requires : tie.Need-refused-requires Inv-loop μ-loop
 refused-requires c κs = search needs

@@ -1,6 +1,6 @@
 use borrow.Author.Needs.{needs}
 use mathlib.Core.Bool.{false}
-use mathlib.Core.Path.{sym, ap, _∙_}
+use mathlib.Core.Path.{refl, sym, ap, _∙_}
 use Rattle.node.specs.Layout.{shapeOf}
 use Rattle.model.specs.Words.{height, start}
 use Rattle.model.specs.Tree.{Open}
@@ -39,7 +39,7 @@ scan-below-requires c κs =
     let C = shapeOf (a .l) in
     let w = a .s .now in
     let n = a .root .0 in
-    (c .before .before .before .before .before .before .pre .0, (root-valid false C (a .l .pool) w n (p .0 .1) (p .0 .0) (p .0 .2), (p .1 .0, (root-passed C (a .l .pool) w (a .end .0) n (p .0 .0) (p .0 .2), root-last C (a .l .pool) w (a .end .0) n (p .0 .0) (p .0 .2) (a .ids .now) _ _ (sym (ap (progressOf (a .ids .now)) (c .before .p .given .1)) ∙ c .before .before .before .scan-node .ensures) (p .1 .1)))))
+    (c .before .before .before .before .before .before .pre .0, (root-valid false C (a .l .pool) w n (p .0 .1) (p .0 .0) (p .0 .2), ((p .1 .0, refl), (root-passed C (a .l .pool) w (a .end .0) n (p .0 .0) (p .0 .2), root-last C (a .l .pool) w (a .end .0) n (p .0 .0) (p .0 .2) (a .ids .now) _ _ (sym (ap (progressOf (a .ids .now)) (c .before .p .given .1)) ∙ c .before .before .before .scan-node .ensures) (p .1 .1)))))
 
 returns : tie.Need-returns
 unfolding Ending
