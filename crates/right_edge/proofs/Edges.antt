@@ -20,10 +20,10 @@ use Rattle.right_edge.specs.declared.EdgeTest.the-variants.{Unsound, Sou
 use Rattle.right_edge.specs.declared.RightEdge.{RightEdge}
 use Rattle.right_edge.specs.Edge.{rightEdge, roomOf, endOf, Edge, Ready, Descended, Edged, Usable}
 
-never : {A : Type 0} (m l : ℕ) (b : Limit) → unsound m ≡ leaf l b → A
+pub never : {A : Type 0} (m l : ℕ) (b : Limit) → unsound m ≡ leaf l b → A
 never m l b e = let z : _≡_ {A = ℕ} 0 1 = cc in absurd (omega arith)
 
-same-leaf : (n l : ℕ) (b c : Limit) → leaf n b ≡ leaf l c → n ≡ l
+pub same-leaf : (n l : ℕ) (b c : Limit) → leaf n b ≡ leaf l c → n ≡ l
 same-leaf n l b c e = cc
 
 -- where the next rows begin
@@ -45,7 +45,7 @@ module _ (C : Shape) (w : List ℕ) (n : ℕ) where
       let e : end C w n ≤ rowLimit = leb→le (end C w n) rowLimit (search (and-l, and-r) depth 8) in
       omega (arith, start-some (λ z. omega (arith, f .some)))
 
-  empty-facts : emptyRoot C w n ≡ true → (height C w n ≡ 0) × (count C w n ≡ 0) × (appendStart C w n ≤ rowLimit)
+  pub empty-facts : emptyRoot C w n ≡ true → (height C w n ≡ 0) × (count C w n ≡ 0) × (appendStart C w n ≤ rowLimit)
   unfolding emptyRoot
   empty-facts e =
       let t = holds (emptyRoot C w n) e in
@@ -103,14 +103,14 @@ module _ (C : Shape) (P : ℕ) (w : List ℕ) where
   edge-turn (suc h) n q l = let e : suc h - 1 ≡ h = omega arith in rw e (q .1, q .2, q .3)
 
   -- a node of the edge that is not full
-  abbrev Fit : ℕ → Room → Type 0
+  abbrev pub Fit : ℕ → Room → Type 0
   Fit h z = (z .needed ≤ h) × (z .node < P) × (count C w (z .node) < C .cap)
 
   higher : (h : ℕ) (z : Room) → Fit h z → Fit (suc h) z
   higher h z f = (omega (arith, f .0), f .1, f .2)
 
   -- the room found is the one at hand, or such a node
-  found : (h n : ℕ) (o : Room) → Edge C P w h n → (roomFrom C w h n o ≡ o) ⊎ Fit h (roomFrom C w h n o)
+  pub found : (h n : ℕ) (o : Room) → Edge C P w h n → (roomFrom C w h n o ≡ o) ⊎ Fit h (roomFrom C w h n o)
   unfolding roomFrom Edge
   found zero n o q =
       by-test (ltb (count C w n) (C .cap))
