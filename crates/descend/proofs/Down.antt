@@ -1,17 +1,17 @@
 -- One step of a path to a leaf.
-use Prim.Native.Nat.{ℕ, zero, suc, _+_, _-_, _<_, _≤_}
+use Prim.Native.Nat.{ℕ, zero, suc, _-_, _<_, _≤_}
 use mathlib.Core.List.{List}
-use mathlib.Core.Bool.{Bool, true, false}
-use mathlib.Core.Path.{_≡_, refl, sym, ap, _∙_, subst}
+use mathlib.Core.Bool.{true, false}
+use mathlib.Core.Path.{_≡_, sym, ap, _∙_, subst}
 use native.Mathlib.Omega.{arith}
 use lib.Dec.{T, leb, ltb}
 use borrow.Author.Tests.{lt-ltb, le-ltb, ltb-true}
 use mathlib.Core.Logic.{_⊎_, inl, inr}
 use Rattle.model.proofs.Tests.{by-test, holds}
 use Rattle.model.specs.Tree as Tree
-use Rattle.model.specs.Words.{Shape, pick, part, height, count, start, row, child, maxHeight}
+use Rattle.model.specs.Words.{Shape, height, count, start, row, child, maxHeight}
 use Rattle.model.specs.Tree.{Limit, Open, nodeAt, sound, emptyRoot, rising, pairsFrom}
-use Rattle.model.specs.Reading.{Reached, unsound, leaf, nextRow, checked, descend, rootLeaf, lastNotAbove, toRow}
+use Rattle.model.specs.Reading.{unsound, leaf, nextRow, checked, descend, rootLeaf, lastNotAbove, toRow}
 use Rattle.node_test.proofs.Rows.{facts, sound-if}
 use Rattle.node_place.proofs.Places.{place-below}
 

@@ -2,7 +2,7 @@
 use Prim.Native.Nat.{ℕ, _<_}
 use mathlib.Core.List.{List}
 use mathlib.Core.Path.{_≡_, refl, sym, _∙_, subst}
-use Rattle.model.specs.Words.{lent, capacity, pool, root, freeHead, freeCount}
+use Rattle.model.specs.Words.{lent, pool, root, freeHead, freeCount}
 use Rattle.model.specs.Tree.{Limit, Open}
 use Rattle.model.specs.Reading.{Reached, unsound, leaf, rootLeaf, toRight}
 use Rattle.model.specs.Refusals.{Answer, refused, Outcome, refusal}

@@ -1,7 +1,7 @@
 -- An append after its path: the tests that are left, and the writes.
 use Prim.Native.Nat.{ℕ, zero, suc, _+_, _-_, _<_, _≤_}
 use mathlib.Core.List.{List, [], _∷_, _++_}
-use mathlib.Core.Bool.{true, false, _&&_, _||_, false≢true}
+use mathlib.Core.Bool.{true, false, _&&_, _||_}
 use mathlib.Core.Path.{_≡_, sym, ap, _∙_, subst}
 use mathlib.Core.Logic.{_≢_}
 use native.Mathlib.Omega.{arith}
@@ -16,7 +16,6 @@ use Rattle.model.specs.Refusals.{result, damaged, Outcome, refusal}
 use Rattle.model.specs.Append.{Room, appendStart, room, firsts, past, chainSound, taken, hang, appendAt, appendTo}
 use Rattle.model.specs.declared.id.NodeNo.{NodeNo}
 use Rattle.model.specs.declared.answer.Refusal.{Refusal}
-use Rattle.model.specs.declared.answer.Refusal.the-variants.{RowLimit, HeightLimit, NoRoom}
 use Rattle.model.proofs.Words.{put-word}
 use Rattle.model.proofs.Writes.{added-word}
 use Rattle.model.proofs.Tests.{and-l, and-r, by-test, holds, is-true}

@@ -6,9 +6,9 @@ use mathlib.Core.Path.{_≡_, refl, sym, ap, _∙_, subst}
 use mathlib.Core.Logic.{⊎-elim, _⊎_, inl, inr, _≢_}
 use native.Mathlib.Omega.{arith}
 use lib.ListN.{take}
-use lib.Dec.{leb, ltb, eqb, leb→le, eqb→eq}
-use borrow.Author.Tests.{lt-ltb, le-ltb, eq-eqb, ne-eqb, ltb-true, leb-true}
-use Rattle.model.specs.Words.{Shape, pick, height, count, start, end, row, child, freeCount, rowLimit, maxHeight}
+use lib.Dec.{leb, ltb, leb→le, eqb→eq}
+use borrow.Author.Tests.{lt-ltb, eq-eqb, ne-eqb, ltb-true, leb-true}
+use Rattle.model.specs.Words.{Shape, height, count, start, end, row, child, freeCount, rowLimit, maxHeight}
 use Rattle.model.specs.Tree.{Limit, Open, nodeAt, sound, endSound, emptyRoot}
 use Rattle.model.specs.Reading.{unsound, leaf, nextRow, checked, descend, rootLeaf, toRight}
 use Rattle.model.specs.Append.{Room, appendStart, roomFrom, room}

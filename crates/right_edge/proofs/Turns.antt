@@ -11,7 +11,7 @@ use lib.Dec.{leb, ltb}
 use borrow.Author.Tests.{lt-ltb, le-ltb, leb-true, leb-false}
 use Rattle.model.specs.Words.{Shape, pick, count, row, child}
 use Rattle.model.specs.Tree.{Limit, Open, nodeAt, sound}
-use Rattle.model.specs.Reading.{Reached, unsound, leaf, nextRow, descend, toRight}
+use Rattle.model.specs.Reading.{unsound, leaf, nextRow, descend, toRight}
 use Rattle.model.specs.Append.{Room, roomFrom}
 use Rattle.model.specs.declared.path.Position.{Position}
 use Rattle.node_test.proofs.Rows.{facts}

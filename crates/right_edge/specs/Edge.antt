@@ -9,7 +9,6 @@ use Rattle.model.specs.Reading.{Reached, unsound, leaf, descend, rootLeaf, toRi
 use Rattle.model.specs.Append as A
 use Rattle.model.specs.Append.{appendStart, roomFrom}
 use Rattle.model.specs.declared.path.Position.{Position}
-use Rattle.model.specs.declared.path.Path.{Path}
 use Rattle.right_edge.specs.declared.Room.{Room}
 use Rattle.right_edge.specs.declared.EdgeTest.{EdgeTest}
 use Rattle.right_edge.specs.declared.EdgeTest.the-variants.{Unsound, Sound}

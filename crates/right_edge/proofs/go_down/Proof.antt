@@ -7,7 +7,8 @@ use lib.Dec.{leb}
 use borrow.Author.Tests.{not-true, not-false}
 use Rattle.node.specs.Layout.{shapeOf}
 use Rattle.model.specs.Words.{count}
-use Rattle.model.specs.Tree.{Open}
+use mathlib.Core.Bool.{true}
+use Rattle.model.specs.Tree.{Open, nodeAt, sound}
 use Rattle.model.specs.declared.node.RowPageIndexNodeHeader.{RowPageIndexNodeHeader}
 use Rattle.node_test.proofs.Rows.{facts}
 use Rattle.right_edge.specs.Edge.{roomOf}
@@ -69,7 +70,8 @@ sub-index c =
     let w = a .s .now in
     let at = x .loop in
     let e = ap (λ (y : RowPageIndexNodeHeader). y .count) (c .before .before .before .header .ensures) in
-    let f = facts C w (at .n .0) (at .h) (at .r .0) Open (sym (c .before .before .before .before .before .is-sound .ensures) ∙ not-false _ (c .before .before .before .before .if2 .left)) in
+    let good : sound C (at .h) (nodeAt C w (at .n .0)) (at .r .0) Open ≡ true = sym (c .before .before .before .before .before .is-sound .ensures) ∙ not-false _ (c .before .before .before .before .if2 .left) in
+    let f = facts C w (at .n .0) (at .h) (at .r .0) Open good in
     omega (arith, e, f .some)
 
 mul-positions : tie.Need-mul-positions Inv-loop μ-loop
@@ -89,7 +91,7 @@ returns-3 c =
     let w = a .s .now in
     let at = x .loop in
     let e = ap (λ (y : RowPageIndexNodeHeader). y .count) (c .before .before .before .before .header .ensures) in
-    let good = sym (c .before .before .before .before .before .before .is-sound .ensures) ∙ not-false _ (c .before .before .before .before .before .if2 .left) in
+    let good : sound C (at .h) (nodeAt C w (at .n .0)) (at .r .0) Open ≡ true = sym (c .before .before .before .before .before .before .is-sound .ensures) ∙ not-false _ (c .before .before .before .before .before .if2 .left) in
     let f : c .before .before .before .is-full .result ≡ leb (C .cap) (count C w (at .n .0)) = c .before .before .before .is-full .ensures ∙ ap (leb (C .cap)) e in
     let u : roomOf (c .before .before .if3 .room) ≡ roomHere C w (at .h) (at .n .0) (roomOf (at .room)) =
     ⊎-elim
@@ -114,7 +116,8 @@ row-requires c κs =
     let w = a .s .now in
     let at = x .loop in
     let e = ap (λ (y : RowPageIndexNodeHeader). y .count) (c .before .before .before .before .header .ensures) in
-    let f = facts C w (at .n .0) (at .h) (at .r .0) Open (sym (c .before .before .before .before .before .before .is-sound .ensures) ∙ not-false _ (c .before .before .before .before .before .if2 .left)) in
+    let good : sound C (at .h) (nodeAt C w (at .n .0)) (at .r .0) Open ≡ true = sym (c .before .before .before .before .before .before .is-sound .ensures) ∙ not-false _ (c .before .before .before .before .before .if2 .left) in
+    let f = facts C w (at .n .0) (at .h) (at .r .0) Open good in
     (x .before .before .pre .0, (c .before .before .before .before .before .before .before .if1 .left, omega (arith, e, f .some, f .many)))
 
 child-requires : tie.Need-child-requires Inv-loop μ-loop
@@ -125,7 +128,8 @@ child-requires c κs =
     let w = a .s .now in
     let at = x .loop in
     let e = ap (λ (y : RowPageIndexNodeHeader). y .count) (c .before .before .before .before .before .header .ensures) in
-    let f = facts C w (at .n .0) (at .h) (at .r .0) Open (sym (c .before .before .before .before .before .before .before .is-sound .ensures) ∙ not-false _ (c .before .before .before .before .before .before .if2 .left)) in
+    let good : sound C (at .h) (nodeAt C w (at .n .0)) (at .r .0) Open ≡ true = sym (c .before .before .before .before .before .before .before .is-sound .ensures) ∙ not-false _ (c .before .before .before .before .before .before .if2 .left) in
+    let f = facts C w (at .n .0) (at .h) (at .r .0) Open good in
     (x .before .before .pre .0, (c .before .before .before .before .before .before .before .before .if1 .left, omega (arith, e, f .some, f .many)))
 
 sub-h : tie.Need-sub-h Inv-loop μ-loop
@@ -142,7 +146,7 @@ loop-again c =
     let w = a .s .now in
     let at = x .loop in
     let e = ap (λ (y : RowPageIndexNodeHeader). y .count) (c .before .before .before .before .before .before .header .ensures) in
-    let good = sym (c .before .before .before .before .before .before .before .before .is-sound .ensures) ∙ not-false _ (c .before .before .before .before .before .before .before .if2 .left) in
+    let good : sound C (at .h) (nodeAt C w (at .n .0)) (at .r .0) Open ≡ true = sym (c .before .before .before .before .before .before .before .before .is-sound .ensures) ∙ not-false _ (c .before .before .before .before .before .before .before .if2 .left) in
     let f : c .before .before .before .before .before .is-full .result ≡ leb (C .cap) (count C w (at .n .0)) = c .before .before .before .before .before .is-full .ensures ∙ ap (leb (C .cap)) e in
     let u : roomOf (c .before .before .before .before .if3 .room) ≡ roomHere C w (at .h) (at .n .0) (roomOf (at .room)) =
     ⊎-elim

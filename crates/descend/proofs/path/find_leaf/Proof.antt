@@ -1,10 +1,10 @@
 use borrow.Author.Needs.{needs}
 use mathlib.Core.Bool.{true, false}
-use mathlib.Core.Path.{_≡_, refl, sym, ap, _∙_, subst}
+use mathlib.Core.Path.{_≡_, sym, ap, _∙_}
 use borrow.Author.Tests.{not-true, not-false}
 use lib.Dec.{leb}
 use Rattle.node.specs.Layout.{shapeOf}
-use Rattle.model.specs.Words.{part, height, start, maxHeight}
+use Rattle.model.specs.Words.{height, maxHeight}
 use Rattle.model.specs.Tree.{Open}
 use Rattle.model.specs.Reading.{descend, toRow}
 use Rattle.model.specs.declared.node.RowPageIndexNodeHeader.{RowPageIndexNodeHeader}
