@@ -59,7 +59,8 @@ fn grow_tree(
 fn place_page(s: &mut [u64], h: StoreHeader, root_height: u64, new: NewPage, room: Room) -> Inserted
     requires { ⌜ Fits (h .layout) (now s) ⌝ }
     requires { ⌜ (h .root .0 < h .layout .pool) × (h .«free_head» .0 ≡ freeHead (now s)) × (h .«free_count» ≡ freeCount (now s)) ⌝ }
-    requires { ⌜ («root_height» ≡ height (shapeOf (h .layout)) (now s) (h .root .0)) × Usable (shapeOf (h .layout)) (h .layout .pool) (now s) (h .root .0) (roomOf room) ⌝ }
+    requires { ⌜ «root_height» ≡ height (shapeOf (h .layout)) (now s) (h .root .0) ⌝ }
+    requires { ⌜ Usable (shapeOf (h .layout)) (h .layout .pool) (now s) (h .root .0) (roomOf room) ⌝ }
     ensures answer { λ r. ⌜ inserted r ≡ placed (shapeOf (h .layout)) (h .layout .pool) (now (s .entry)) (h .root .0) (new .start .0) (new .end .0) (new .page .0) (roomOf room) .answer ⌝ }
     ensures words { λ r. ⌜ now (s .exit) ≡ placed (shapeOf (h .layout)) (h .layout .pool) (now (s .entry)) (h .root .0) (new .start .0) (new .end .0) (new .page .0) (roomOf room) .words ⌝ }
 {
@@ -97,7 +98,8 @@ fn insert_after(
 ) -> Inserted
     requires { ⌜ Fits (h .layout) (now s) ⌝ }
     requires { ⌜ (h .root .0 < h .layout .pool) × (h .«free_head» .0 ≡ freeHead (now s)) × (h .«free_count» ≡ freeCount (now s)) ⌝ }
-    requires { ⌜ Ready (shapeOf (h .layout)) (h .layout .pool) (now s) (h .root .0) (last .0) × (roomOf free ≡ room (shapeOf (h .layout)) (now s) (h .root .0)) ⌝ }
+    requires { ⌜ Ready (shapeOf (h .layout)) (h .layout .pool) (now s) (h .root .0) (last .0) ⌝ }
+    requires { ⌜ roomOf free ≡ room (shapeOf (h .layout)) (now s) (h .root .0) ⌝ }
     ensures answer { λ r. ⌜ inserted r ≡ appendTo (shapeOf (h .layout)) (h .layout .pool) (now (s .entry)) (h .root .0) count (page .0) (leaf (last .0) Open) .answer ⌝ }
     ensures words { λ r. ⌜ now (s .exit) ≡ appendTo (shapeOf (h .layout)) (h .layout .pool) (now (s .entry)) (h .root .0) count (page .0) (leaf (last .0) Open) .words ⌝ }
 {

@@ -49,17 +49,19 @@ pub record Walked (C : Shape) (w : List ℕ) (h n : ℕ) (e : RightEdge) : Type 
   pub path : take (e .path .depth) (e .path .positions) ≡ rightEdge C w h n
   pub room : roomOf (e .room) ≡ roomFrom C w h n (record { node = n; needed = h + 2 })
 
+-- what a walk down from node n of height h answers, which row r leads to: the first unsound node, or the path to the leaf
 pub record Descended (C : Shape) (P : ℕ) (w : List ℕ) (h n r : ℕ) (e : RightEdge) : Type 0 where
   pub answer : endOf (e .test) (e .leaf .0) ≡ descend (toRight C w) C P w h n n r Open
   pub walked : e .test ≡ Sound → Walked C w h n e
 
--- what is known of the right edge from root n, where it is sound
+-- the right edge from root n, where it is sound: its path, the lowest node on it with room, and what its tests have shown
 pub record Whole (C : Shape) (P : ℕ) (w : List ℕ) (n : ℕ) (e : RightEdge) : Type 0 where
   pub ready : Ready C P w n (e .leaf .0)
   pub deep : e .path .depth ≡ height C w n + 1
   pub path : take (e .path .depth) (e .path .positions) ≡ rightEdge C w (height C w n) n
   pub room : roomOf (e .room) ≡ A.room C w n
 
+-- what the walk from root n answers, by 01's definition of the path to the right leaf
 pub record Edged (C : Shape) (P : ℕ) (w : List ℕ) (n : ℕ) (e : RightEdge) : Type 0 where
   pub answer : endOf (e .test) (e .leaf .0) ≡ rootLeaf (toRight C w) C P w n
   pub whole : e .test ≡ Sound → Whole C P w n e
