@@ -1,17 +1,19 @@
 -- One step of a path to a leaf.
-use Prim.Native.Nat.{ℕ, zero, suc, _+_, _-_, _<_, _≤_}
+use Prim.Native.Nat.{ℕ, zero, suc, _-_, _<_, _≤_}
 use mathlib.Core.List.{List}
-use mathlib.Core.Bool.{Bool, true, false}
-use mathlib.Core.Path.{_≡_, refl, sym, ap, _∙_, subst}
+use mathlib.Core.Bool.{true, false}
+use mathlib.Core.Path.{_≡_, sym, ap, _∙_, subst}
 use native.Mathlib.Omega.{arith}
-use lib.Dec.{leb, ltb}
+use lib.Dec.{T, leb, ltb}
 use borrow.Author.Tests.{lt-ltb, le-ltb, ltb-true}
 use mathlib.Core.Logic.{_⊎_, inl, inr}
-use Rattle.model.proofs.Tests.{by-test}
+use Rattle.model.proofs.Tests.{by-test, holds}
 use Rattle.model.specs.Tree as Tree
-use Rattle.model.specs.Words.{Shape, pick, part, height, count, start, row, child, maxHeight}
-use Rattle.model.specs.Tree.{Limit, Open, nodeAt, sound, emptyRoot}
-use Rattle.model.specs.Reading.{Reached, unsound, leaf, nextRow, checked, descend, rootLeaf}
+use Rattle.model.specs.Words.{Shape, height, count, start, row, child, maxHeight}
+use Rattle.model.specs.Tree.{Limit, Open, nodeAt, sound, emptyRoot, rising, pairsFrom}
+use Rattle.model.specs.Reading.{unsound, leaf, nextRow, checked, descend, rootLeaf, lastNotAbove, toRow}
+use Rattle.node_test.proofs.Rows.{facts, sound-if}
+use Rattle.node_place.proofs.Places.{place-below}
 
 module _ (f : ℕ → ℕ) (C : Shape) (P : ℕ) (w : List ℕ) (m n r : ℕ) (b : Limit) where
   -- a number out of range; an unsound node
@@ -85,7 +87,20 @@ module _ (f : ℕ → ℕ) (C : Shape) (P : ℕ) (w : List ℕ) (n : ℕ) (b : L
       (λ u. inr (path-sound (height C w k) k k (start C w k) Open (rw (t, u) at e)))
       (λ u. not-leaf k (rw (t, u) at e)))
 
--- after the last entry comes what comes after the node
-pub next-last : (C : Shape) (w : List ℕ) (n i : ℕ) (b : Limit) → count C w n ≤ i + 1 → b ≡ nextRow C w n i b
-unfolding nextRow
-next-last C w n i b h = rw (le-ltb (i + 1) (count C w n) h)
+-- the entry of a sound node towards row q, by a count k that was read
+module _ (C : Shape) (w : List ℕ) (n h r : ℕ) (b : Limit) (s : sound C h (nodeAt C w n) r b ≡ true) (k : ℕ) (e : k ≡ count C w n) where
+  pub some : 1 ≤ k
+  some = omega (arith, e, facts C w n h r b s .some)
+
+  pub many : k ≤ C .cap
+  many = omega (arith, e, facts C w n h r b s .many)
+
+  pub rises : T (rising (pairsFrom C w (λ (x : ℕ). x) n 0 k))
+  rises = rw e (holds _ (sym (sound-if C w n h r b (facts C w n h r b s)) ∙ s))
+
+  module _ (q i : ℕ) (p : i ≡ lastNotAbove C w q n k) where
+    pub towards : i ≡ toRow C w q n
+    towards = p ∙ ap (lastNotAbove C w q n) e
+
+    pub within : i < count C w n
+    within = omega (arith, towards, place-below C w n q (count C w n) (facts C w n h r b s .some))

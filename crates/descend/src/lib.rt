@@ -1,3 +1,3 @@
-// The path to one leaf: towards a row, or along the right edge.
+// The path to one leaf, towards a row.
 
 pub mod path;

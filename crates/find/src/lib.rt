@@ -13,7 +13,6 @@ ghost use Rattle.node.specs.Layout.{Fits, shapeOf};
 ghost use Rattle.find.specs.Leaf.{IsLeaf};
 use descend::path;
 use descend::path::Reached;
-use descend::path::Toward;
 use model::answer::Refusal;
 use model::answer::RowLocation;
 use model::id::NodeNo;
@@ -55,7 +54,7 @@ fn find_in_tree(l: Layout, s: &[u64], root: NodeNo, row: RowID) -> RowLocation
         }
         return RowLocation::NotFound;
     }
-    match path::find_leaf(l, s, root, Toward::Row(row)) {
+    match path::find_leaf(l, s, root, row) {
         Reached::Unsound(n) => RowLocation::Refused(Refusal::Unsound(n)),
         Reached::Leaf(n, _) => find_in_leaf(l, s, n, row),
     }

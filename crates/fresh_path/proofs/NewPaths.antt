@@ -62,10 +62,6 @@ module _ (C : Shape) (s e x : ℕ) (w : List ℕ) (l : List NodeNo) where
   path-close i n a b = let q : i ≡ n = omega arith in subst (λ (j : ℕ). newPath C w s e x (listed l j (n + 1 - j)) ≡ fresh C w (numberAt l n) 0 s e x) (sym q) (path-end n)
 
 module _ (C : Shape) (w : List ℕ) (n s e x : ℕ) (l : List NodeNo) where
-  pub hang-page : (k : ℕ) → k ≡ 0 → hang C w n s e x (listed l 0 k) ≡ put C (added C w n s x) n 3 e
-  unfolding hang listed
-  hang-page k z = rw z
-
   pub hang-path : (k : ℕ) → (k ≡ 0 → ⊥) → hang C w n s e x (listed l 0 k) ≡ newPath C (added C w n s (numberAt l 0)) s e x (listed l 0 k)
   unfolding hang listed
   hang-path zero z = absurd (z refl)

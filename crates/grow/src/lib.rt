@@ -1,6 +1,7 @@
 // What an append writes to nodes: one more entry, a new path, a root of two entries.
 
 ghost use mathlib.Core.Path.{_≡_};
+ghost use mathlib.Core.List.{[]};
 ghost use mathlib.Core.Logic.{_≢_};
 ghost use Prim.Native.Nat.{_+_, _-_, _≤_, _<_};
 ghost use Rattle.model.specs.Words.{NONE, count, height};
@@ -18,17 +19,22 @@ use node_copy;
 use node_pairs;
 use pool::write;
 
-// One more entry in node n: the page, where n is the right leaf, or a path of k nodes over it.
-pub fn hang(l: Layout, s: &mut [u64], n: NodeNo, new: NewPage, nodes: [NodeNo; 32], k: usize)
+// The page becomes the last entry of the right leaf n.
+pub fn hang_page(l: Layout, s: &mut [u64], n: NodeNo, new: NewPage)
     requires { ⌜ Fits l (now s) ⌝ }
-    requires { ⌜ (n .0 < l .pool) × (count (shapeOf l) (now s) (n .0) < l .capacity) × (k ≤ 32) × Inside (l .pool) (listed nodes 0 k) ⌝ }
+    requires { ⌜ (n .0 < l .pool) × (count (shapeOf l) (now s) (n .0) < l .capacity) ⌝ }
+    ensures { λ _. ⌜ now (s .exit) ≡ hang (shapeOf l) (now (s .entry)) (n .0) (new .start .0) (new .end .0) (new .page .0) [] ⌝ }
+{
+    node_pairs::add_page(l, s, n, new.start, new.page);
+    write::put(l, s, n, 3, new.end.0);
+}
+
+// One more entry in branch n: a path of k nodes over the page.
+pub fn hang_path(l: Layout, s: &mut [u64], n: NodeNo, new: NewPage, nodes: [NodeNo; 32], k: usize)
+    requires { ⌜ Fits l (now s) ⌝ }
+    requires { ⌜ (n .0 < l .pool) × (count (shapeOf l) (now s) (n .0) < l .capacity) × (1 ≤ k) × (k ≤ 32) × Inside (l .pool) (listed nodes 0 k) ⌝ }
     ensures { λ _. ⌜ now (s .exit) ≡ hang (shapeOf l) (now (s .entry)) (n .0) (new .start .0) (new .end .0) (new .page .0) (listed nodes 0 k) ⌝ }
 {
-    if k == 0 {
-        node_pairs::add_page(l, s, n, new.start, new.page);
-        write::put(l, s, n, 3, new.end.0);
-        return;
-    }
     let top = nodes[0];
     node_pairs::add_child(l, s, n, new.start, top);
     fresh_path::new_path(l, s, new, nodes, 0, k);

@@ -2,7 +2,7 @@
 use Prim.Native.Nat.{ℕ, _<_}
 use mathlib.Core.List.{List}
 use mathlib.Core.Path.{_≡_, refl, sym, _∙_, subst}
-use Rattle.model.specs.Words.{lent, capacity, pool, root, freeHead, freeCount}
+use Rattle.model.specs.Words.{lent, pool, root, freeHead, freeCount}
 use Rattle.model.specs.Tree.{Limit, Open}
 use Rattle.model.specs.Reading.{Reached, unsound, leaf, rootLeaf, toRight}
 use Rattle.model.specs.Refusals.{Answer, refused, Outcome, refusal}
@@ -12,8 +12,6 @@ use Rattle.node.specs.Layout.{shapeOf, Fits, storeHeader, opened}
 use Rattle.node.specs.declared.header.StoreHeader.{StoreHeader}
 use Rattle.node.specs.declared.header.Opened.the-variants.{Open as Opens, Refused}
 use Rattle.node.proofs.Opened.{is-open, is-refused, goes-on, opens-fits}
-use Rattle.append_room.specs.Room.{Ready}
-use Rattle.append_room.proofs.RightEdge.{ready}
 
 -- the right leaf of an open store
 abbrev pub right : List ℕ → StoreHeader → Reached
@@ -28,9 +26,6 @@ module _ (w : List ℕ) (h : StoreHeader) (e : opened w ≡ Opens h) where
 
   pub open-chain : (h .«free_head» .0 ≡ freeHead w) × (h .«free_count» ≡ freeCount w)
   open-chain = subst (λ (z : StoreHeader). (z .«free_head» .0 ≡ freeHead w) × (z .«free_count» ≡ freeCount w)) (sym is-header) (refl, refl)
-
-  pub leaf-ready : (l : ℕ) (b : Limit) → right w h ≡ leaf l b → Ready (shapeOf (h .layout)) (h .layout .pool) w (h .root .0) l
-  leaf-ready l b q = ready (shapeOf (h .layout)) (h .layout .pool) w (h .root .0) l b (open-fits .1) q
 
 module _ (w : List ℕ) (k x : ℕ) where
   abbrev refuse : Answer → Outcome

@@ -1,28 +1,30 @@
 -- An append after its path: the tests that are left, and the writes.
 use Prim.Native.Nat.{ℕ, zero, suc, _+_, _-_, _<_, _≤_}
 use mathlib.Core.List.{List, [], _∷_, _++_}
-use mathlib.Core.Bool.{true, false, _&&_, _||_, false≢true}
+use mathlib.Core.Bool.{true, false, _&&_, _||_}
 use mathlib.Core.Path.{_≡_, sym, ap, _∙_, subst}
 use mathlib.Core.Logic.{_≢_}
 use native.Mathlib.Omega.{arith}
 use lib.ListN.{set}
-use lib.Dec.{leb, ltb, eqb}
-use borrow.Author.Tests.{lt-ltb, le-ltb, eq-eqb, ne-eqb, ltb-false}
-use Rattle.model.specs.Words.{Shape, pick, height, count, freeHead, freeCount, rowLimit, maxHeight}
+use lib.Seq.{set-getD}
+use lib.Dec.{ltb, eqb}
+use borrow.Author.Tests.{le-leb}
+use Rattle.model.specs.Words.{Shape, word, put, added, height, count, freeHead, freeCount, rowLimit, maxHeight}
 use Rattle.model.specs.Tree.{Limit}
 use Rattle.model.specs.Reading.{leaf}
 use Rattle.model.specs.Refusals.{result, damaged, Outcome, refusal}
-use Rattle.model.specs.Append.{Room, appendStart, room, firsts, past, chainSound, taken, hang, splitRoot, appendAt, appendTo}
+use Rattle.model.specs.Append.{Room, appendStart, room, firsts, past, chainSound, taken, hang, appendAt, appendTo}
 use Rattle.model.specs.declared.id.NodeNo.{NodeNo}
 use Rattle.model.specs.declared.answer.Refusal.{Refusal}
-use Rattle.model.specs.declared.answer.Refusal.the-variants.{RowLimit, HeightLimit, NoRoom}
+use Rattle.model.proofs.Words.{put-word}
+use Rattle.model.proofs.Writes.{added-word}
 use Rattle.model.proofs.Tests.{and-l, and-r, by-test, holds, is-true}
 use Rattle.node_chain.specs.Chain.{listed}
 use Rattle.node_chain.proofs.Links.{link}
 use Rattle.append_limits.specs.declared.Ruling.{Ruling}
 use Rattle.append_limits.specs.declared.Ruling.the-variants.{Fine, Refused}
 use Rattle.fresh_path.specs.Inside.{Inside, numberAt}
-use Rattle.insert.specs.Placed.{placed}
+use Rattle.insert.specs.Placed.{grown, placed}
 use Rattle.append_limits.specs.Limits.{checked}
 
 -- a refusal leaves the words w
@@ -58,9 +60,23 @@ module _ (C : Shape) (P : ℕ) (w : List ℕ) (n s e x : ℕ) (o : Room) where
   unfolding placed
   placed-bad t = rw t
 
+  -- room in the right leaf: no node is taken, and the words of the chain stay
+  kept : taken C w (hang C w (o .node) s e x []) 0 ≡ hang C w (o .node) s e x []
+  unfolding taken past hang
+  kept =
+      let u = added C w (o .node) s x in
+      let v = put C u (o .node) 3 e in
+      let head : freeHead w ≡ word v 3 = sym (put-word C u (o .node) 3 e 3 (omega arith) ∙ added-word C w (o .node) s x 3 (omega arith)) in
+      let free : freeCount w - 0 ≡ word v 4 = omega (arith, put-word C u (o .node) 3 e 4 (omega arith), added-word C w (o .node) s x 4 (omega arith)) in
+      ap (λ (z : ℕ). set (set v 3 z) 4 (freeCount w - 0)) head ∙ ap (λ (z : List ℕ). set z 4 (freeCount w - 0)) (set-getD v 3 0) ∙ ap (set v 4) free ∙ set-getD v 4 0
+
+  pub placed-leaf : o .needed ≡ 0 → placed C P w n s e x o ≡ record { answer = result (s ∷ e ∷ o .needed ∷ []); words = hang C w (o .node) s e x [] }
+  unfolding placed appendAt chainSound firsts
+  placed-leaf z = rw (z, le-leb 0 (height C w n) (omega arith), kept)
+
   pub placed-good : chainSound C P w (freeHead w) [] (o .needed) ≡ true → (l : List NodeNo) (a : ℕ) → listed l 0 (o .needed) ≡ firsts C w (freeHead w) (o .needed) → a ≡ past C w (freeHead w) (o .needed)
       → placed C P w n s e x o
-      ≡ record { answer = result (s ∷ e ∷ o .needed ∷ []); words = set (set (pick (leb (o .needed) (height C w n)) (hang C w (o .node) s e x (listed l 0 (o .needed))) (splitRoot C w n s e x (listed l 0 (o .needed)))) 3 a) 4 (freeCount w - o .needed) }
+      ≡ record { answer = result (s ∷ e ∷ o .needed ∷ []); words = set (set (grown C w n s e x o (listed l 0 (o .needed))) 3 a) 4 (freeCount w - o .needed) }
   unfolding placed appendAt taken
   placed-good t l a f p = rw (t, f, p)
 

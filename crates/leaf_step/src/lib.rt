@@ -10,7 +10,6 @@ ghost use Rattle.listing.specs.Listing.{Readable};
 ghost use Rattle.leaf_step.specs.Steps.{Steps, gives, onList, stays};
 use descend::path;
 use descend::path::Reached;
-use descend::path::Toward;
 use listing::LeafEntries;
 use model::answer::Leaf;
 use model::answer::NextLeaf;
@@ -80,7 +79,7 @@ fn step_in_tree(l: Layout, s: &[u64], root: NodeNo, cursor: RowPageIndexMemCurso
     ensures few { λ r. ⌜ r .entries .count ≤ l .capacity ⌝ }
 {
     let row = cursor.row_id;
-    match path::find_leaf(l, s, root, Toward::Row(row)) {
+    match path::find_leaf(l, s, root, row) {
         Reached::Unsound(n) => stay(NextLeaf::Refused(Refusal::Unsound(n)), cursor),
         Reached::Leaf(n, next) => give(l, s, n, next),
     }

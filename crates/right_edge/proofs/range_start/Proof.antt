@@ -6,9 +6,9 @@ use borrow.Author.Tests.{eqb-true, eqb-false}
 use Rattle.node.specs.Layout.{shapeOf}
 use Rattle.model.specs.Words.{count}
 use Rattle.model.specs.declared.node.RowPageIndexNodeHeader.{RowPageIndexNodeHeader}
-use Rattle.append_room.proofs.RightEdge.{start-empty, start-some}
-use Rattle.append_room.proofs.range_start.Statement.{statement}
-use Rattle.append_room.proofs.range_start.Tie as tie
+use Rattle.right_edge.proofs.Edges.{start-empty, start-some}
+use Rattle.right_edge.proofs.range_start.Statement.{statement}
+use Rattle.right_edge.proofs.range_start.Tie as tie
 
 header-requires : tie.Need-header-requires
 header-requires c κs = search needs

@@ -1,24 +1,29 @@
--- The right edge that a path to the right leaf went down, and room on it.
+-- What a sound right edge is known by, and the room on it.
 use Prim.Native.Nat.{ℕ, zero, suc, _+_, _-_, _<_, _≤_}
-use mathlib.Core.List.{List}
+use mathlib.Core.List.{List, [], _∷_}
 use mathlib.Core.Bool.{true}
 use mathlib.Core.Path.{_≡_, refl, sym, ap, _∙_, subst}
 use mathlib.Core.Logic.{⊎-elim, _⊎_, inl, inr, _≢_}
 use native.Mathlib.Omega.{arith}
-use lib.Dec.{leb, ltb, eqb, leb→le, eqb→eq}
-use borrow.Author.Tests.{lt-ltb, le-ltb, eq-eqb, ne-eqb, ltb-true, leb-true}
-use Rattle.model.specs.Words.{Shape, pick, height, count, start, end, row, child, freeCount, rowLimit, maxHeight}
+use lib.ListN.{take}
+use lib.Dec.{leb, ltb, leb→le, eqb→eq}
+use borrow.Author.Tests.{lt-ltb, eq-eqb, ne-eqb, ltb-true, leb-true}
+use Rattle.model.specs.Words.{Shape, height, count, start, end, row, child, freeCount, rowLimit, maxHeight}
 use Rattle.model.specs.Tree.{Limit, Open, nodeAt, sound, endSound, emptyRoot}
 use Rattle.model.specs.Reading.{unsound, leaf, nextRow, checked, descend, rootLeaf, toRight}
 use Rattle.model.specs.Append.{Room, appendStart, roomFrom, room}
 use Rattle.model.proofs.Tests.{and-l, and-r, by-test, holds}
 use Rattle.node_test.proofs.Rows.{facts}
-use Rattle.append_room.specs.Room.{Edge, Ready, Usable}
+use Rattle.descend.proofs.Down.{root-empty}
+use Rattle.model.specs.declared.id.NodeNo.{NodeNo}
+use Rattle.right_edge.specs.declared.EdgeTest.the-variants.{Unsound, Sound}
+use Rattle.right_edge.specs.declared.RightEdge.{RightEdge}
+use Rattle.right_edge.specs.Edge.{rightEdge, roomOf, endOf, Edge, Ready, Descended, Edged, Usable}
 
-never : {A : Type 0} (m l : ℕ) (b : Limit) → unsound m ≡ leaf l b → A
+pub never : {A : Type 0} (m l : ℕ) (b : Limit) → unsound m ≡ leaf l b → A
 never m l b e = let z : _≡_ {A = ℕ} 0 1 = cc in absurd (omega arith)
 
-same-leaf : (n l : ℕ) (b c : Limit) → leaf n b ≡ leaf l c → n ≡ l
+pub same-leaf : (n l : ℕ) (b c : Limit) → leaf n b ≡ leaf l c → n ≡ l
 same-leaf n l b c e = cc
 
 -- where the next rows begin
@@ -40,14 +45,14 @@ module _ (C : Shape) (w : List ℕ) (n : ℕ) where
       let e : end C w n ≤ rowLimit = leb→le (end C w n) rowLimit (search (and-l, and-r) depth 8) in
       omega (arith, start-some (λ z. omega (arith, f .some)))
 
-  empty-low : emptyRoot C w n ≡ true → (height C w n ≡ 0) × (appendStart C w n ≤ rowLimit)
+  pub empty-facts : emptyRoot C w n ≡ true → (height C w n ≡ 0) × (count C w n ≡ 0) × (appendStart C w n ≤ rowLimit)
   unfolding emptyRoot
-  empty-low e =
+  empty-facts e =
       let t = holds (emptyRoot C w n) e in
       let h : height C w n ≡ 0 = eqb→eq (height C w n) 0 (search (and-l, and-r) depth 8) in
       let z : count C w n ≡ 0 = eqb→eq (count C w n) 0 (search (and-l, and-r) depth 8) in
       let l : start C w n ≤ rowLimit = leb→le (start C w n) rowLimit (search (and-l, and-r) depth 8) in
-      (h, omega (arith, start-empty z))
+      (h, z, omega (arith, start-empty z))
 
 module _ (C : Shape) (P : ℕ) (w : List ℕ) where
   down : (h m n r : ℕ) (b : Limit) (l : ℕ) (c : Limit) → descend (toRight C w) C P w h m n r b ≡ leaf l c → Edge C P w h n × (l < P) × (appendStart C w l ≤ rowLimit)
@@ -75,12 +80,12 @@ module _ (C : Shape) (P : ℕ) (w : List ℕ) where
   ready n l b i e =
       by-test (emptyRoot C w n)
       (λ t. let q = same-leaf n l Open b (rw t at e) in
-      let z = empty-low C w n t in
+      let z = empty-facts C w n t in
       record {
         high = omega (arith, z .0);
         edge = rw (z .0) i;
         inside = subst (λ (k : ℕ). k < P) q i;
-        low = subst (λ (k : ℕ). appendStart C w k ≤ rowLimit) q (z .1);
+        low = subst (λ (k : ℕ). appendStart C w k ≤ rowLimit) q (z .2);
       })
       (λ t. by-test (leb (height C w n) maxHeight)
       (λ u. let d = down (height C w n) n n (start C w n) Open l b (rw (t, u) at e) in
@@ -98,14 +103,14 @@ module _ (C : Shape) (P : ℕ) (w : List ℕ) where
   edge-turn (suc h) n q l = let e : suc h - 1 ≡ h = omega arith in rw e (q .1, q .2, q .3)
 
   -- a node of the edge that is not full
-  abbrev Fit : ℕ → Room → Type 0
+  abbrev pub Fit : ℕ → Room → Type 0
   Fit h z = (z .needed ≤ h) × (z .node < P) × (count C w (z .node) < C .cap)
 
   higher : (h : ℕ) (z : Room) → Fit h z → Fit (suc h) z
   higher h z f = (omega (arith, f .0), f .1, f .2)
 
   -- the room found is the one at hand, or such a node
-  found : (h n : ℕ) (o : Room) → Edge C P w h n → (roomFrom C w h n o ≡ o) ⊎ Fit h (roomFrom C w h n o)
+  pub found : (h n : ℕ) (o : Room) → Edge C P w h n → (roomFrom C w h n o ≡ o) ⊎ Fit h (roomFrom C w h n o)
   unfolding roomFrom Edge
   found zero n o q =
       by-test (ltb (count C w n) (C .cap))
@@ -133,29 +138,37 @@ module _ (C : Shape) (P : ℕ) (w : List ℕ) where
       (λ z. record { high = r .high; few = omega (arith, r .high, z .0); free = f; hangs = λ a. (z .1, z .2); splits = λ a. absurd (omega (arith, z .0)) })
       (found (height C w n) n (record { node = n; needed = height C w n + 2 }) (r .edge))
 
--- a turn of the second pass
-module _ (C : Shape) (w : List ℕ) where
-  pub room-at : (h n : ℕ) → h ≡ height C w n → room C w n ≡ roomFrom C w h n (record { node = n; needed = h + 2 })
+-- From the root ------------------------------------------------------------------------------------------
+
+module _ (C : Shape) (P : ℕ) (w : List ℕ) (n : ℕ) (e : RightEdge) where
+  never-sound : {A : Type 0} (m : NodeNo) → e .test ≡ Unsound m → e .test ≡ Sound → A
+  never-sound m t q = let z : _≡_ {A = ℕ} 0 1 = cc in absurd (omega arith)
+
+  pub edged-not : (m : NodeNo) → e .test ≡ Unsound m → rootLeaf (toRight C w) C P w n ≡ unsound (m .0) → Edged C P w n e
+  edged-not m t d = record { answer = rw t (sym d); whole = λ q. never-sound m t q }
+
+  -- an edge that ends at a leaf is ready
+  edge-ready : n < P → endOf (e .test) (e .leaf .0) ≡ rootLeaf (toRight C w) C P w n → e .test ≡ Sound → Ready C P w n (e .leaf .0)
+  edge-ready l a q = ready C P w n (e .leaf .0) Open l (sym a ∙ rw q)
+
+  pub edged-down : n < P → rootLeaf (toRight C w) C P w n ≡ descend (toRight C w) C P w (height C w n) n n (start C w n) Open → Descended C P w (height C w n) n (start C w n) e → Edged C P w n e
   unfolding room
-  room-at h n e = rw e
+  edged-down l p d =
+      let a = d .answer ∙ sym p in
+      record { answer = a; whole = λ q. let v = d .walked q in record { ready = edge-ready l a q; deep = v .deep; path = v .path; room = v .room } }
 
-  turn : (h n : ℕ) (o : Room) → 0 < h → roomFrom C w h n o ≡ roomFrom C w (h - 1) (child C w n (count C w n - 1)) (pick (ltb (count C w n) (C .cap)) (record { node = n; needed = h }) o)
-  unfolding roomFrom
-  turn zero n o l = absurd (omega arith)
-  turn (suc h) n o l = let e : suc h - 1 ≡ h = omega arith in rw e
-
-  pub room-here : (h n : ℕ) (o : Room) → 0 < h → count C w n < C .cap → roomFrom C w h n o ≡ roomFrom C w (h - 1) (child C w n (count C w n - 1)) (record { node = n; needed = h })
-  room-here h n o l t = turn h n o l ∙ rw (lt-ltb (count C w n) (C .cap) t)
-
-  pub room-full : (h n : ℕ) (o : Room) → 0 < h → C .cap ≤ count C w n → roomFrom C w h n o ≡ roomFrom C w (h - 1) (child C w n (count C w n - 1)) o
-  room-full h n o l t = turn h n o l ∙ rw (le-ltb (count C w n) (C .cap) t)
-
-  pub leaf-here : (h n : ℕ) (o : Room) → h ≤ 0 → count C w n < C .cap → roomFrom C w h n o ≡ record { node = n; needed = 0 }
-  unfolding roomFrom
-  leaf-here zero n o l t = rw (lt-ltb (count C w n) (C .cap) t)
-  leaf-here (suc h) n o l t = absurd (omega arith)
-
-  pub leaf-full : (h n : ℕ) (o : Room) → h ≤ 0 → C .cap ≤ count C w n → roomFrom C w h n o ≡ o
-  unfolding roomFrom
-  leaf-full zero n o l t = rw (le-ltb (count C w n) (C .cap) t)
-  leaf-full (suc h) n o l t = absurd (omega arith)
+  -- an empty root: one position, with room
+  pub edged-empty : n < P → 0 < C .cap → emptyRoot C w n ≡ true → e .test ≡ Sound → e .leaf .0 ≡ n → e .path .depth ≡ 1 → take 1 (e .path .positions) ≡ record { node = record { 0 = n }; index = 0 } ∷ [] → roomOf (e .room) ≡ record { node = n; needed = 0 } → Edged C P w n e
+  unfolding room roomFrom rightEdge
+  edged-empty l c t k f d p o =
+      let z = empty-facts C w n t in
+      let a : endOf (e .test) (e .leaf .0) ≡ rootLeaf (toRight C w) C P w n = rw (k, f) (sym (root-empty (toRight C w) C P w n t)) in
+      record {
+        answer = a;
+        whole = λ q. record {
+          ready = edge-ready l a q;
+          deep = rw (z .0) d;
+          path = rw (z .0, z .1, d) p;
+          room = o ∙ rw (z .0, z .1, lt-ltb 0 (C .cap) c);
+        };
+      }
