@@ -47,7 +47,8 @@ fn end_sound(height: u64, next: Limit, end: RowID, last: RowID) -> bool
     }
 }
 
-// Whether the rows of node n rise strictly. Four rows a turn: one compare and one load each, with a short loop body.
+// Whether the rows of node n rise strictly. Four rows a turn: one compare and one load each, with a short loop body. Then
+// the last four once more, so that no branch depends on how many are left.
 fn rises(l: Layout, s: &[u64], n: NodeNo, count: u64) -> bool
     requires { ⌜ Fits l (now s) ⌝ }
     requires { ⌜ (n .0 < l .pool) × (1 ≤ count) × (count ≤ l .capacity) ⌝ }
@@ -74,6 +75,19 @@ fn rises(l: Layout, s: &[u64], n: NodeNo, count: u64) -> bool
         }
         last = d;
         i += 4;
+    }
+    if 4 <= count {
+        let a = l.row(s, n, count - 4).0;
+        let b = l.row(s, n, count - 3).0;
+        if b <= a {
+            return false;
+        }
+        let c = l.row(s, n, count - 2).0;
+        if c <= b {
+            return false;
+        }
+        let d = l.row(s, n, count - 1).0;
+        return c < d;
     }
     while i < count {
         let a = l.row(s, n, i).0;
