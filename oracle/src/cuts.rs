@@ -124,16 +124,18 @@ impl Cuts {
         }
         let counts = done([held.len() as u64, nodes.len() as u64, tree.words[1] - nodes.len() as u64]);
         self.ask(tree, || "check".into(), (counts, &tree.words), |w, a| lent::check(w, a))?;
-        let mut cursor = [0, 0];
-        for leaf in leaves.into_iter().map(Some).chain([None]) {
+        let (mut cursor, mut kept) = ([0, 0], [0, 0]);
+        let last = leaves.len();
+        for (i, leaf) in leaves.into_iter().map(Some).chain([None]).enumerate() {
             let mut records = vec![STALE; 2 * tree.words[0] as usize];
             let mut wanted = records.clone();
             let answer = leaf.map_or(done([]), |l| done([l.start, l.end, l.slots.len() as u64]));
             let slots = leaf.iter().flat_map(|l| l.slots.iter());
             wanted.chunks_mut(2).zip(slots).for_each(|(w, s)| w.copy_from_slice(&[s.0, s.1]));
             self.ask(tree, || "next".into(), (answer, &tree.words), |w, a| lent::next(w, &mut cursor, &mut records, a))?;
-            if records != wanted {
-                return Err(format!("{tree}: a walk gives {records:?}, wanted {wanted:?}"));
+            kept = leaf.map_or(kept, |l| [l.end, u64::from(i + 1 == last)]);
+            if (&records, cursor) != (&wanted, kept) {
+                return Err(format!("{tree}: a walk gives {records:?} and {cursor:?}, wanted {wanted:?} and {kept:?}"));
             }
         }
         Ok(())
@@ -162,7 +164,7 @@ impl Cuts {
         Ok(left)
     }
 
-    /// Releases with lists of every length around the one wanted.
+    /// Releases with lists of every length around the one wanted, and the empty form.
     fn releases(&mut self, tree: &Tree) -> Result<(), String> {
         let n = tree.pages.len();
         let (accepted, closed) = released(&tree.words, n as u64);
@@ -170,10 +172,12 @@ impl Cuts {
         for (pivot, length) in
             (n.saturating_sub(2)..n + 3).map(|l| (tree.start(), l)).chain([(tree.start() + 1, n), (NONE, 0)])
         {
-            let answer = match () {
-                () if first < pivot => refused(12, first),
-                () if length < n => refused(13, n as u64),
-                () => accepted,
+            let answer = if first < pivot {
+                refused(12, first)
+            } else if length < n {
+                refused(13, n as u64)
+            } else {
+                accepted
             };
             let (mut list, mut wanted) = (vec![STALE; length], vec![STALE; length]);
             if answer == accepted {
@@ -187,6 +191,9 @@ impl Cuts {
             }
             self.seen(tree).releases += 1;
         }
+        let (answer, words) = if n == 0 { (accepted, &closed) } else { (refused(12, 0), &tree.words) };
+        self.ask(tree, || "empty release".into(), (answer, words), lent::destroy_empty)?;
+        self.seen(tree).releases += 1;
         Ok(())
     }
 

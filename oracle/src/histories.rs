@@ -287,5 +287,10 @@ pub fn run(wanted: u64, seed: u64) -> bool {
     progress.say(&format!("histories: {histories}, {calls} calls"));
     print(&all);
     println!("{histories} histories, {calls} calls compared\n0 differences");
-    true
+    // So many calls meet every refusal, or the arguments are made badly.
+    let missing: Vec<u64> = (1..=13).filter(|n| all.values().all(|c| !c.refusals.contains_key(n))).collect();
+    if calls >= 1_000_000 && !missing.is_empty() {
+        println!("refusals that were not met: {missing:?}");
+    }
+    calls < 1_000_000 || missing.is_empty()
 }
