@@ -224,7 +224,8 @@ fn history(seed: u64, capacity: u64) -> Option<Beside> {
     let words = memory(seed, length(&mut r, capacity));
     let mut beside = Beside::new(&words);
     let mut steps = Vec::new();
-    let (mut turns, cuts, mut appends) = (40 + r.below(300), 2 + r.below(22), 0);
+    let mut turns = if r.below(40) == 0 { 5000 } else { 40 + r.below(300) };
+    let (cuts, mut appends) = (2 + r.below(22), 0);
     while turns > 0 {
         let ledger = &beside.ledger;
         let entries = ledger.entries.len();
