@@ -33,10 +33,14 @@ fn create(r: &mut Random, length: usize, usual: u64) -> Call {
         6..10 => 0,
         _ => r.below(1000),
     };
-    let exact = places::store_length(capacity, pool) as usize;
+    let length_of = |c, p| places::store_length(c, p) as usize;
+    let exact = length_of(capacity, pool);
     let (c, p, lent) = match r.below(20) {
-        0 => ([0, 1, 4095, 4096, NONE][r.below(5) as usize], pool, exact),
-        1 => (capacity, [0, 65_536, NONE][r.below(3) as usize], exact),
+        0 => ([4095, 4096, NONE][r.below(3) as usize], pool, exact),
+        1 => (capacity, [65_536, NONE][r.below(2) as usize], exact),
+        5 => (0, pool, length_of(0, pool)),
+        6 => (1, pool, length_of(1, pool)),
+        7 => (capacity, 0, length_of(capacity, 0)),
         2 => (capacity, pool, exact - 1),
         3 => (capacity, pool, exact + 1),
         4 => (capacity, pool, r.below(length as u64 + 1) as usize),
@@ -255,6 +259,32 @@ fn history(seed: u64, capacity: u64) -> Option<Beside> {
     Some(beside)
 }
 
+/// A store at the limits of C and P, or one past them, in memory of exactly its length. None where something differs.
+fn limit(capacity: u64, pool: u64) -> Option<Beside> {
+    let length = places::store_length(capacity, pool) as usize;
+    let words = memory(capacity + pool, length);
+    let calls = [
+        Call::Create(capacity, pool, LIMIT + 1, length),
+        Call::Create(capacity, pool, 7, length),
+        Call::Append(1, 5),
+        Call::Append(2, 6),
+        Call::Append(3, 7),
+        Call::Sweep,
+        Call::Prune(7, 8, vec![5]),
+        Call::Release(0, 2),
+    ];
+    let steps: Vec<Step> = calls.into_iter().map(|call| Step { call, off: 0 }).collect();
+    let mut beside = Beside::new(&words);
+    if steps.iter().any(|step| beside.make(step).is_err()) {
+        tell(capacity + pool, &words, steps);
+        return None;
+    }
+    Some(beside)
+}
+
+const LIMITS: [(u64, u64); 10] =
+    [(0, 1), (1, 1), (1, 65_535), (2, 0), (2, 1), (2, 65_535), (2, 65_536), (4094, 0), (4094, 1), (4095, 1)];
+
 fn print(all: &BTreeMap<usize, Counts>) {
     let kinds = ["created", "appended", "found", "not found", "pruned", "leaf", "none", "checked", "released"];
     print!("{:>6}", "C");
@@ -273,8 +303,11 @@ pub fn run(wanted: u64, seed: u64) -> bool {
     let (mut all, mut calls, mut progress) = (BTreeMap::<usize, Counts>::new(), 0, Progress::default());
     let mut histories = 0;
     while calls < wanted {
-        let capacity = CAPACITIES[histories as usize % CAPACITIES.len()];
-        let Some(beside) = history(seed + histories, capacity) else {
+        let beside = match LIMITS.get(histories as usize) {
+            Some((capacity, pool)) => limit(*capacity, *pool),
+            None => history(seed + histories, CAPACITIES[histories as usize % CAPACITIES.len()]),
+        };
+        let Some(beside) = beside else {
             println!("{calls} calls compared before it\n1 differences");
             return false;
         };
