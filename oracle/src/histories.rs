@@ -234,7 +234,10 @@ fn history(seed: u64, capacity: u64) -> Option<Beside> {
         let ledger = &beside.ledger;
         let entries = ledger.entries.len();
         let call = match steps.len() {
-            0 if r.below(4) == 0 => Call::Plant(Box::new(planted::random(&mut r, capacity as usize, words.len()))),
+            // Memory for 560 nodes at C = 2 is there for the highest trees.
+            0 if r.below(4) == 0 || (capacity == 2 && words.len() > 560 * 8 && r.below(4) > 0) => {
+                Call::Plant(Box::new(planted::random(&mut r, capacity as usize, words.len())))
+            }
             1 => Call::Sweep,
             _ if !ledger.made && r.below(4) > 0 => create(&mut r, words.len(), capacity),
             _ if appends > 0 => Call::Append(1 + r.below(5), r.word()),

@@ -92,7 +92,8 @@ pub fn random(r: &mut Random, capacity: usize, length: usize) -> Ledger {
             outline.add(level);
         }
     }
-    if r.below(2) == 0 && outline.nodes + (capacity - 1) * height * (height + 1) / 2 <= most {
+    let added = (capacity - 1) * height * (height + 1) / 2;
+    if r.below(3) > 0 && outline.nodes + added <= most {
         outline.fill();
     }
     let pool = outline.nodes + (r.below(2 * height as u64 + 6) as usize).min(most - outline.nodes);
