@@ -180,6 +180,15 @@ impl Beside {
         self.walk(lent, 0)
     }
 
+    fn release(&mut self, lent: usize, pivot: u64, words: usize) -> Result<(), String> {
+        let (mut got, mut want) = (list(words), list(words));
+        let answer = self.ledger.first_refusal(lent);
+        let answer = answer.unwrap_or_else(|| self.ledger.release(pivot, inner(&mut want)));
+        self.ask("released", lent, answer, |w, a| lent::destroy(w, pivot, inner(&mut got), a))?;
+        same("list", &got, &want)
+    }
+
+    /// What differs, if anything does.
     pub fn make(&mut self, step: &Step) -> Result<(), String> {
         let lent = self.lent(step.off);
         let first = self.ledger.first_refusal(lent);
@@ -201,12 +210,7 @@ impl Beside {
                 let want = first.unwrap_or_else(|| self.ledger.prune(*start, *end, ids));
                 self.ask("pruned", lent, want, |w, a| lent::prune(w, *start, *end, ids, a))
             }
-            Call::Release(pivot, words) => {
-                let (mut got, mut want) = (list(*words), list(*words));
-                let answer = first.unwrap_or_else(|| self.ledger.release(*pivot, inner(&mut want)));
-                self.ask("released", lent, answer, |w, a| lent::destroy(w, *pivot, inner(&mut got), a))?;
-                same("list", &got, &want)
-            }
+            Call::Release(pivot, words) => self.release(lent, *pivot, *words),
             Call::ReleaseEmpty => {
                 let want = first.unwrap_or_else(|| self.ledger.release_empty());
                 self.ask("released", lent, want, lent::destroy_empty)
