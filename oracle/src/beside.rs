@@ -4,7 +4,7 @@ use crate::ledger::{Answer, LIMIT, Ledger, NONE};
 use crate::store::lent;
 use std::collections::BTreeMap;
 
-/// Words before the store, and on both sides of a list, that no call may touch.
+/// Words on both sides of the memory and of a list that no call may touch.
 const PAD: usize = 8;
 const STALE: u64 = 0xABAD_1DEA;
 
@@ -73,6 +73,10 @@ pub struct Beside {
     pub calls: u64,
 }
 
+fn padded(words: &[u64]) -> Vec<u64> {
+    [&[STALE; PAD], words, &[STALE; PAD]].concat()
+}
+
 fn list(words: usize) -> Vec<u64> {
     vec![STALE; words + 2 * PAD]
 }
@@ -94,9 +98,8 @@ fn same(what: &str, got: &[u64], want: &[u64]) -> Result<(), String> {
 impl Beside {
     /// The memory holds these words, which are no store.
     pub fn new(words: &[u64]) -> Beside {
-        let (cursor, padded) = ([STALE, 0, 1, STALE], [&[STALE; PAD], words].concat());
-        let ledger = Ledger::new(words.to_vec());
-        Beside { ledger, words: padded, cursor, wanted: cursor, counts: BTreeMap::new(), calls: 0 }
+        let (ledger, cursor) = (Ledger::new(words.to_vec()), [STALE, 0, 1, STALE]);
+        Beside { ledger, words: padded(words), cursor, wanted: cursor, counts: BTreeMap::new(), calls: 0 }
     }
 
     /// Makes a call on so many words of the memory and compares the answer and the memory.
@@ -117,10 +120,12 @@ impl Beside {
         if answer != want || number != want[0] {
             return Err(format!("{number} and {answer:?}, wanted {want:?}"));
         }
-        if self.words[PAD..] != self.ledger.words || self.words[..PAD] != [STALE; PAD] {
-            same("memory", &self.words, &[&[STALE; PAD], &self.ledger.words[..]].concat())?;
+        let (before, memory) = self.words.split_at(PAD);
+        let (memory, after) = memory.split_at(self.ledger.words.len());
+        if memory == self.ledger.words && before == [STALE; PAD] && after == [STALE; PAD] {
+            return Ok(());
         }
-        Ok(())
+        same("memory", &self.words, &padded(&self.ledger.words))
     }
 
     /// The words lent to a call other than create.
@@ -195,7 +200,7 @@ impl Beside {
         match &step.call {
             Call::Plant(ledger) => {
                 self.ledger = (**ledger).clone();
-                self.words[PAD..].copy_from_slice(&self.ledger.words);
+                self.words = padded(&self.ledger.words);
                 Ok(())
             }
             Call::Create(c, p, start, words) => {
