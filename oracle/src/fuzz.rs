@@ -3,6 +3,7 @@
 use crate::guarded::Guarded;
 use crate::pair::LIMIT;
 use crate::places;
+use crate::progress::Progress;
 use crate::random::{self, Random};
 use crate::script::{self, LONGEST, Memory, Read, Record, WORDS};
 use std::collections::BTreeMap;
@@ -298,6 +299,7 @@ pub fn run(count: u64, seed: u64) -> bool {
     let (mut records, mut bytes, mut listed, mut longest, mut differences) = (0, 0, 0, 0, 0);
     let mut refusals = BTreeMap::<u64, u64>::new();
     let mut shortest: Option<Vec<u8>> = None;
+    let mut progress = Progress::default();
     for k in 0..count {
         // A third of them are good.
         let sort = match r.below(SORTS.len() as u64 + 3) as usize {
@@ -323,6 +325,7 @@ pub fn run(count: u64, seed: u64) -> bool {
         for refusal in read.listing.lines().filter_map(|l| l.strip_prefix("no ")) {
             *refusals.entry(refusal.split(' ').next().unwrap().parse().unwrap()).or_default() += 1;
         }
+        progress.step(|| format!("{} scripts of {count}, {records} records", k + 1));
     }
     println!("{:>20}{:>10}{:>14}", "inputs", "all", "bad record");
     let all = sorts.iter().fold((0, 0), |a, b| (a.0 + b.0, a.1 + b.1));

@@ -11,9 +11,11 @@ mod lent;
 mod pair;
 mod places;
 mod probe;
+mod progress;
 mod random;
 mod record;
 mod script;
+mod seeded;
 mod shape;
 mod store;
 mod tally;
@@ -25,7 +27,6 @@ mod listed {
 
 use calls::Create;
 use std::process::ExitCode;
-use std::time::Instant;
 use tally::Tally;
 
 pub fn listed_at(capacity: u64) -> Create {
@@ -35,22 +36,20 @@ pub fn listed_at(capacity: u64) -> Create {
 /// Sequences at the small capacities, then fills and random sequences at each one that is wanted.
 fn compare(wanted: impl Fn(u64) -> bool) -> bool {
     let mut tally = Tally::default();
-    let time = Instant::now();
-    let say = |text: &str| eprintln!("{:6.1} s  {text}", time.elapsed().as_secs_f64());
     differences::smallest(&mut tally);
     probe::creates(&mut tally);
-    say("smallest inputs of the listed differences");
+    tally.say("smallest inputs of the listed differences");
     lent::run(&mut tally, 200_000);
-    say("what calls leave of what they are lent");
+    tally.say("what calls leave of what they are lent");
     for capacity in (2..=5).filter(|c| wanted(*c)) {
         let create = listed_at(capacity);
         let found = exhaustive::outlines(&mut tally, create, capacity, [0, 0, 32, 36, 40, 46][capacity as usize]);
-        say(&format!("C = {capacity}: all {found} outlines"));
+        tally.say(&format!("C = {capacity}: all {found} outlines"));
         exhaustive::sequences(&mut tally, create, capacity, 60, 14);
         for nodes in 1..=9 {
             exhaustive::sequences(&mut tally, create, capacity, nodes, 9);
         }
-        say(&format!("C = {capacity}: all sequences"));
+        tally.say(&format!("C = {capacity}: all sequences"));
     }
     for (capacity, create) in listed::ALL.into_iter().filter(|l| wanted(l.0)) {
         let length = match capacity {
@@ -67,10 +66,10 @@ fn compare(wanted: impl Fn(u64) -> bool) -> bool {
             record::scripts(&mut tally, capacity, if capacity < 6 { 400 } else { 40 });
         }
         if capacity % 10 == 0 {
-            say(&format!("C up to {capacity}: fills, random sequences and scripts"));
+            tally.say(&format!("C up to {capacity}: fills, random sequences and scripts"));
         }
     }
-    say("fills, random sequences and scripts at every C");
+    tally.say("fills, random sequences and scripts at every C");
     tally.print()
 }
 

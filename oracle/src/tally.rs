@@ -1,4 +1,5 @@
 //! What was compared: calls of each kind at each capacity, differences that are listed, and those that are not.
+use crate::progress::Progress;
 use std::collections::BTreeMap;
 
 #[derive(Debug, Clone, Copy, PartialEq, Eq, PartialOrd, Ord)]
@@ -57,11 +58,28 @@ pub struct Tally {
     /// How many, and the shortest of them.
     unlisted: u64,
     shortest: Vec<String>,
+    /// All calls, and those told on standard error.
+    made: u64,
+    progress: Progress,
 }
 
 impl Tally {
     pub fn call(&mut self, capacity: u64, kind: Kind) {
         *self.calls.entry(capacity).or_default().entry(kind).or_default() += 1;
+        self.turn();
+    }
+
+    fn turn(&mut self) {
+        self.made += 1;
+        // The clock costs more than some calls.
+        if self.made.is_multiple_of(64) {
+            self.progress.step(|| format!("{} calls", self.made));
+        }
+    }
+
+    /// A stage is done.
+    pub fn say(&mut self, text: &str) {
+        self.progress.say(&format!("{text}; {} calls", self.made));
     }
 
     pub fn difference(&mut self, d: Difference) {
@@ -75,6 +93,7 @@ impl Tally {
     pub fn lent(&mut self, number: u64, none: bool) {
         *self.lent.entry(number).or_default() += 1;
         self.none += none as u64;
+        self.turn();
     }
 
     pub fn unlisted(&mut self, text: String) {
