@@ -70,10 +70,8 @@ fn go_down(l: Layout, s: &[u64], root: NodeNo, height: u64, row: RowID) -> Right
     requires { ⌜ height ≤ maxHeight ⌝ }
     ensures { λ r. ⌜ Descended (shapeOf l) (l .pool) (now (s .entry)) height (root .0) (row .0) r ⌝ }
 {
-    let mut positions = [Position {
-        node: root,
-        index: 0,
-    }; 32];
+    let start = Position::entered(root);
+    let mut positions = [start; 32];
     let mut room = Room {
         node: root,
         needed: height + 2,

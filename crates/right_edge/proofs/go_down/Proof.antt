@@ -23,6 +23,9 @@ Inv-loop l s height positions₀ room₀ parent₀ n₀ h₀ r₀ depth₀ posit
 abbrev μ-loop : tie.MeasureT-loop
 μ-loop l s height positions₀ room₀ parent₀ n₀ h₀ r₀ depth₀ positions room parent n h r depth = h
 
+entered-requires : tie.Need-entered-requires Inv-loop μ-loop
+entered-requires c κs = search needs
+
 add-t18 : tie.Need-add-t18 Inv-loop μ-loop
 add-t18 c = search needs
 
@@ -35,7 +38,7 @@ unsound-requires c κs = search needs
 returns : tie.Need-returns Inv-loop μ-loop
 returns c =
     let x = c .before .before .before .before in
-    let a = x .before .before .args in
+    let a = x .before .before .before .args in
     let C = shapeOf (a .l) in
     let w = a .s .now in
     let at = x .loop in
@@ -50,7 +53,7 @@ unsound-requires-2 c κs = search needs
 returns-2 : tie.Need-returns-2 Inv-loop μ-loop
 returns-2 c =
     let x = c .before .before .before .before .before .before in
-    let a = x .before .before .args in
+    let a = x .before .before .before .args in
     let C = shapeOf (a .l) in
     let w = a .s .now in
     let at = x .loop in
@@ -65,7 +68,7 @@ is-full-requires c κs = search needs
 sub-index : tie.Need-sub-index Inv-loop μ-loop
 sub-index c =
     let x = c .before .before .before .before .before .before .before .before .before in
-    let a = x .before .before .args in
+    let a = x .before .before .before .args in
     let C = shapeOf (a .l) in
     let w = a .s .now in
     let at = x .loop in
@@ -75,18 +78,18 @@ sub-index c =
     omega (arith, e, f .some)
 
 mul-positions : tie.Need-mul-positions Inv-loop μ-loop
-mul-positions c = let x = c .before .before .before .before .before .before .before .before .before in omega (arith, x .loop .inv .levels, x .before .before .pre .1)
+mul-positions c = let x = c .before .before .before .before .before .before .before .before .before in omega (arith, x .loop .inv .levels, x .before .before .before .pre .1)
 
 array-set-from-positions : tie.Need-array-set-from-positions Inv-loop μ-loop
-array-set-from-positions c = let x = c .before .before .before .before .before .before .before .before .before in omega (arith, x .loop .inv .levels, x .before .before .pre .1)
+array-set-from-positions c = let x = c .before .before .before .before .before .before .before .before .before in omega (arith, x .loop .inv .levels, x .before .before .before .pre .1)
 
 add-depth : tie.Need-add-depth Inv-loop μ-loop
-add-depth c = let x = c .before .before .before .before .before .before .before .before .before in omega (arith, x .loop .inv .levels, x .before .before .pre .1)
+add-depth c = let x = c .before .before .before .before .before .before .before .before .before in omega (arith, x .loop .inv .levels, x .before .before .before .pre .1)
 
 returns-3 : tie.Need-returns-3 Inv-loop μ-loop
 returns-3 c =
     let x = c .before .before .before .before .before .before .before .before .before .before in
-    let a = x .before .before .args in
+    let a = x .before .before .before .args in
     let C = shapeOf (a .l) in
     let w = a .s .now in
     let at = x .loop in
@@ -100,37 +103,37 @@ returns-3 c =
     (c .before .before .if3 .came) in
     let z : at .h ≡ 0 = c .if4 .taken in
     record {
-      answer = sym (arrives C (a .l .pool) w (a .height) (a .root .0) (a .row .0) (at .positions) (roomOf (at .room)) (at .parent .0) (at .n .0) (at .h) (at .r .0) (at .depth) (at .inv) (c .before .before .before .before .before .before .before .if1 .left) good (x .before .before .pre .1) _ (ap (λ (y : ℕ). y - 1) e) (roomOf (c .before .before .if3 .room)) u z);
+      answer = sym (arrives C (a .l .pool) w (a .height) (a .root .0) (a .row .0) (at .positions) (roomOf (at .room)) (at .parent .0) (at .n .0) (at .h) (at .r .0) (at .depth) (at .inv) (c .before .before .before .before .before .before .before .if1 .left) good (x .before .before .before .pre .1) _ (ap (λ (y : ℕ). y - 1) e) (roomOf (c .before .before .if3 .room)) u z);
       walked = λ q. record {
         deep = omega (arith, at .inv .levels);
-        path = whole-path C (a .l .pool) w (a .height) (a .root .0) (a .row .0) (at .positions) (roomOf (at .room)) (at .parent .0) (at .n .0) (at .h) (at .r .0) (at .depth) (at .inv) (c .before .before .before .before .before .before .before .if1 .left) good (x .before .before .pre .1) _ (ap (λ (y : ℕ). y - 1) e) (roomOf (c .before .before .if3 .room)) u z;
-        room = whole-room C (a .l .pool) w (a .height) (a .root .0) (a .row .0) (at .positions) (roomOf (at .room)) (at .parent .0) (at .n .0) (at .h) (at .r .0) (at .depth) (at .inv) (c .before .before .before .before .before .before .before .if1 .left) good (x .before .before .pre .1) _ (ap (λ (y : ℕ). y - 1) e) (roomOf (c .before .before .if3 .room)) u z;
+        path = whole-path C (a .l .pool) w (a .height) (a .root .0) (a .row .0) (at .positions) (roomOf (at .room)) (at .parent .0) (at .n .0) (at .h) (at .r .0) (at .depth) (at .inv) (c .before .before .before .before .before .before .before .if1 .left) good (x .before .before .before .pre .1) _ (ap (λ (y : ℕ). y - 1) e) (roomOf (c .before .before .if3 .room)) u z;
+        room = whole-room C (a .l .pool) w (a .height) (a .root .0) (a .row .0) (at .positions) (roomOf (at .room)) (at .parent .0) (at .n .0) (at .h) (at .r .0) (at .depth) (at .inv) (c .before .before .before .before .before .before .before .if1 .left) good (x .before .before .before .pre .1) _ (ap (λ (y : ℕ). y - 1) e) (roomOf (c .before .before .if3 .room)) u z;
       };
     }
 
 row-requires : tie.Need-row-requires Inv-loop μ-loop
 row-requires c κs =
     let x = c .before .before .before .before .before .before .before .before .before .before in
-    let a = x .before .before .args in
+    let a = x .before .before .before .args in
     let C = shapeOf (a .l) in
     let w = a .s .now in
     let at = x .loop in
     let e = ap (λ (y : RowPageIndexNodeHeader). y .count) (c .before .before .before .before .header .ensures) in
     let good : sound C (at .h) (nodeAt C w (at .n .0)) (at .r .0) Open ≡ true = sym (c .before .before .before .before .before .before .is-sound .ensures) ∙ not-false _ (c .before .before .before .before .before .if2 .left) in
     let f = facts C w (at .n .0) (at .h) (at .r .0) Open good in
-    (x .before .before .pre .0, (c .before .before .before .before .before .before .before .if1 .left, omega (arith, e, f .some, f .many)))
+    (x .before .before .before .pre .0, (c .before .before .before .before .before .before .before .if1 .left, omega (arith, e, f .some, f .many)))
 
 child-requires : tie.Need-child-requires Inv-loop μ-loop
 child-requires c κs =
     let x = c .before .before .before .before .before .before .before .before .before .before .before in
-    let a = x .before .before .args in
+    let a = x .before .before .before .args in
     let C = shapeOf (a .l) in
     let w = a .s .now in
     let at = x .loop in
     let e = ap (λ (y : RowPageIndexNodeHeader). y .count) (c .before .before .before .before .before .header .ensures) in
     let good : sound C (at .h) (nodeAt C w (at .n .0)) (at .r .0) Open ≡ true = sym (c .before .before .before .before .before .before .before .is-sound .ensures) ∙ not-false _ (c .before .before .before .before .before .before .if2 .left) in
     let f = facts C w (at .n .0) (at .h) (at .r .0) Open good in
-    (x .before .before .pre .0, (c .before .before .before .before .before .before .before .before .if1 .left, omega (arith, e, f .some, f .many)))
+    (x .before .before .before .pre .0, (c .before .before .before .before .before .before .before .before .if1 .left, omega (arith, e, f .some, f .many)))
 
 sub-h : tie.Need-sub-h Inv-loop μ-loop
 sub-h c = search needs
@@ -141,7 +144,7 @@ loop-less c = search needs
 loop-again : tie.Need-loop-again Inv-loop μ-loop
 loop-again c =
     let x = c .before .before .before .before .before .before .before .before .before .before .before .before in
-    let a = x .before .before .args in
+    let a = x .before .before .before .args in
     let C = shapeOf (a .l) in
     let w = a .s .now in
     let at = x .loop in
@@ -153,7 +156,7 @@ loop-again c =
     (λ v. ap roomOf (v .1) ∙ has-room C w _ _ _ (sym f ∙ not-true _ (v .0 .taken)))
     (λ v. ap roomOf (v .1) ∙ no-room C w _ _ _ (sym f ∙ not-false _ (v .0 .left)))
     (c .before .before .before .before .if3 .came) in
-    rw (c .child .ensures, c .before .row .ensures) (goes-on C (a .l .pool) w (a .height) (a .root .0) (a .row .0) (at .positions) (roomOf (at .room)) (at .parent .0) (at .n .0) (at .h) (at .r .0) (at .depth) (at .inv) (c .before .before .before .before .before .before .before .before .before .if1 .left) good (x .before .before .pre .1) _ (ap (λ (y : ℕ). y - 1) e) (roomOf (c .before .before .before .before .if3 .room)) u (omega (arith, c .before .before .if4 .left)))
+    rw (c .child .ensures, c .before .row .ensures) (goes-on C (a .l .pool) w (a .height) (a .root .0) (a .row .0) (at .positions) (roomOf (at .room)) (at .parent .0) (at .n .0) (at .h) (at .r .0) (at .depth) (at .inv) (c .before .before .before .before .before .before .before .before .before .if1 .left) good (x .before .before .before .pre .1) _ (ap (λ (y : ℕ). y - 1) e) (roomOf (c .before .before .before .before .if3 .room)) u (omega (arith, c .before .before .if4 .left)))
 
 pub go-down-spec : {M : Type 1} → statement M
 go-down-spec =
@@ -161,7 +164,7 @@ go-down-spec =
     (tie.spec
     Inv-loop
     μ-loop
-    add-t18
+    entered-requires add-t18
     loop-holds
     unsound-requires
     returns
