@@ -49,7 +49,7 @@ pub fn end_fits(height: u64, next: Limit, end: RowID) -> bool
         return true;
     }
     match next {
-        Limit::Open => false,
+        Limit::Open => false, // on the right edge
         Limit::Below(row) => end.0 == row.0,
     }
 }
