@@ -7,6 +7,7 @@ use native.Mathlib.Omega.{arith}
 use native.Mathlib.Nat.{add-zero}
 use lib.ListN.{length, take}
 use lib.Dec.{leb, ltb}
+use borrow.Author.Tests.{le-leb, lt-leb}
 use Rattle.model.specs.Words.{Shape, pick, freeCount, freeAll, emptied, height, count, start, Header}
 use Rattle.model.specs.Tree.{Open, Level, level, nodeAt, sound}
 use Rattle.model.specs.Reading.{occ, rootNodes}
@@ -19,25 +20,44 @@ use Rattle.model.specs.declared.path.Position.{Position}
 use Rattle.model.specs.declared.path.Path.{Path}
 use Rattle.model.proofs.Sound.{sound-at}
 use Rattle.node_test.proofs.Rows.{facts}
+use Rattle.node.specs.Layout.{shapeOf}
+use Rattle.node.specs.declared.header.StoreHeader.{StoreHeader}
 use Rattle.node_chain.specs.Chain.{listed}
+use Rattle.node_chain.proofs.Listed.{length-listed}
 use Rattle.walk.specs.Left.{left, Valid}
 use Rattle.reclaim.specs.Ready.{Ready}
-use Rattle.boundary.specs.Edge.{wentOf, trimsOn, Climbed, Edged}
+use Rattle.boundary.specs.Edge.{wentOf, trimsOn, Climbed}
 use Rattle.boundary.specs.Trims.{trimsOf, NoneBelow, Trims, Outside, Untouched}
 use Rattle.boundary.proofs.Joined.{root-high, depth-low, edge-spine, edge-top, edge-trims}
 use Rattle.boundary.proofs.Distinct.{edge-untouched, edge-right, edge-ends}
 use Rattle.boundary.proofs.Climbs.{node-in, edge-stays, edge-whole, edge-once, edge-few, edge-first}
 use Rattle.boundary.proofs.Settled.{settled-last, settled-none, settled-trims}
+use Rattle.edge.specs.declared.Boundary.{Boundary}
 use Rattle.trim.specs.Nodes.{AllIn}
 use Rattle.copies.specs.Copied.{copiesWith, copiesOf, SoundTop, Collapses}
 use Rattle.copies.specs.declared.Copies as Copied
 use Rattle.copies.specs.declared.CopyTest.{CopyTest}
 use Rattle.copies.specs.declared.CopyTest.the-variants.{Unsound, Sound}
-use Rattle.prune_cut.specs.Found.{Rooted, AllGo, SomeStay, resetTo, cutTo}
+use Rattle.prune_cut.specs.Found.{RootedIn, EdgedIn, AllGo, SomeStay, resetTo, cutTo, resetIn, cutIn}
 use Rattle.prune_cut.specs.Writable.{Resettable, Writable}
 use Rattle.prune_cut.proofs.Outside.{copies-outside}
 
-module _ (C : Shape) (P : ℕ) (w : List ℕ) (e root f : ℕ) (edge : Path) (j : ℕ) (R : Rooted C P w root f) (E : Edged C P w e root edge j) where
+module _ (H : StoreHeader) (w : List ℕ) (e : ℕ) (B : Boundary) (R : RootedIn H w) (E : EdgedIn H w e B) where
+  abbrev C : Shape
+  C = shapeOf (H .layout)
+
+  abbrev P : ℕ
+  P = H .layout .pool
+
+  abbrev root : ℕ
+  root = H .root .0
+
+  abbrev edge : Path
+  edge = B .edge
+
+  abbrev j : ℕ
+  j = B .gone
+
   abbrev h : ℕ
   h = height C w root
 
@@ -106,7 +126,7 @@ module _ (C : Shape) (P : ℕ) (w : List ℕ) (e root f : ℕ) (edge : Path) (j 
   firsts : take j (rootNodes C w root) ≡ G
   firsts = ap (λ (k : ℕ). take k (rootNodes C w root)) (E .topped .counted) ∙ edge-first C P w e root from climbed ∙ sym went-is
 
-  pub resettable : freeCount w + length (wentOf C w (trimsOf edge)) ≤ P → Resettable C P w root edge j
+  pub resettable : B .gone ≤ H .layout .pool - H .«free_count» → Resettable C P w root edge j
   resettable l =
       record {
         ready = record {
@@ -119,7 +139,7 @@ module _ (C : Shape) (P : ℕ) (w : List ℕ) (e root f : ℕ) (edge : Path) (j 
           once-each = edge-once C P w e root from climbed;
           are = climbed .went ∙ sym went-is ∙ sym firsts;
           many = ap (λ (ns : List ℕ). length ns) (climbed .went) ∙ sym (E .topped .counted);
-          room = omega (arith, R .header .pool-high, count-is);
+          room = omega (arith, l, R .header .pool-high, R .free, R .free-in);
         };
         first = firsts;
         inside = R .inside;
@@ -127,6 +147,14 @@ module _ (C : Shape) (P : ℕ) (w : List ℕ) (e root f : ℕ) (edge : Path) (j 
       }
 
   -- All entries go -----------------------------------------------------------------------------------------
+  pub all-full : H .layout .pool - H .«free_count» < B .gone → (k : ℕ) → resetIn H w e k (B .edge) ≡ record { answer = damaged; words = w }
+  unfolding resetTo
+  all-full l k = rw (lt-leb (freeCount w + length G) P (omega (arith, l, count-is, R .free, R .free-in)))
+
+  pub all-done : B .gone ≤ H .layout .pool - H .«free_count» → (k : ℕ) → resetIn H w e k (B .edge) ≡ record { answer = result (k ∷ B .gone ∷ 0 ∷ []); words = freeAll C (emptied C w root e) (wentOf C w (trimsOf (B .edge))) }
+  unfolding resetTo
+  all-done l k = rw (count-is, le-leb (freeCount w + length G) P (omega (arith, l, count-is, R .free, R .free-in)))
+
   pub whole-is : AllGo C w edge → (k : ℕ) → pruneWith C P w root h e tree k (rootCopies C P h e tree) ≡ resetTo C P w root e k (trimsOf edge)
   unfolding pruneWith rootCopies pruneTree trim ifGone level resetTo
   whole-is a k =
@@ -158,7 +186,7 @@ module _ (C : Shape) (P : ℕ) (w : List ℕ) (e root f : ℕ) (edge : Path) (j 
 
     -- the nodes to be copied, as they were found
     module _ (r : Copied.Copies) (are : Collapses C P w root edge (copiesOf r)) where
-      pub found-unsound : (n : NodeNo) → r .answer ≡ Unsound n → copiesFrom C P h e tree (start C w root) ≡ unsound (n .0)
+      found-unsound : (n : NodeNo) → r .answer ≡ Unsound n → copiesFrom C P h e tree (start C w root) ≡ unsound (n .0)
       unfolding Collapses
       found-unsound n q = sym (are e trims-are) ∙ ap (λ (t : CopyTest). copiesWith t (listed (r .nodes) 0 (r .count))) q
 
@@ -166,20 +194,41 @@ module _ (C : Shape) (P : ℕ) (w : List ℕ) (e root f : ℕ) (edge : Path) (j 
       unfolding Collapses
       found-sound q = sym (are e trims-are) ∙ ap (λ (t : CopyTest). copiesWith t (listed (r .nodes) 0 (r .count))) q
 
-    pub writable : (nodes : List NodeNo) (k : ℕ) → k ≤ 31 → AllIn P nodes k → copiesFrom C P h e tree (start C w root) ≡ copies (listed nodes 0 k) → freeCount w + (length (wentOf C w (trimsOf edge)) + k) ≤ P
-        → Writable C P w root edge j nodes k
+    -- what the cut comes to by them
+    module _ (r : Copied.Copies) (are : Collapses C P w root edge (copiesOf r)) (k : ℕ) where
+      pub some-unsound : (n : NodeNo) → r .answer ≡ Unsound n → cutIn H w e k (B .edge) ≡ record { answer = refused 2 (n .0); words = w }
+      unfolding cutTo
+      some-unsound n q = ap (cutTo C P w root e k T) (found-unsound r are n q)
+
+      module _ (q : r .answer ≡ Sound) where
+        pub some-full : H .layout .pool - H .«free_count» < B .gone + r .count → cutIn H w e k (B .edge) ≡ record { answer = damaged; words = w }
+        unfolding cutTo
+        some-full l = ap (cutTo C P w root e k T) (found-sound r are q) ∙ rw (length-listed (r .nodes) 0 (r .count), lt-leb (freeCount w + (length G + r .count)) P (omega (arith, l, count-is, R .free, R .free-in)))
+
+        pub some-done : B .gone + r .count ≤ H .layout .pool - H .«free_count»
+            → cutIn H w e k (B .edge)
+            ≡ record { answer = result (k ∷ (B .gone + r .count) ∷ r .count ∷ []); words = freeAll C (copyAll C (trimAll C w e (trimsOf (B .edge))) root (listed (r .nodes) 0 (r .count))) (wentOf C w (trimsOf (B .edge)) ++ reverse (listed (r .nodes) 0 (r .count))) }
+        unfolding cutTo
+        some-done l =
+            ap (cutTo C P w root e k T) (found-sound r are q)
+            ∙ rw (count-is, length-listed (r .nodes) 0 (r .count), le-leb (freeCount w + (length G + r .count)) P (omega (arith, l, count-is, R .free, R .free-in)))
+
+    -- and what may then be written
+    pub writable : (r : Copied.Copies) → Collapses C P w root edge (copiesOf r) → r .answer ≡ Sound → (r .count ≤ 31) × AllIn P (r .nodes) (r .count) → B .gone + r .count ≤ H .layout .pool - H .«free_count»
+        → Writable C P w root edge j (r .nodes) (r .count)
     unfolding level
-    writable nodes k l a q r =
+    writable r are q a l =
         let s = edge-ends C P w e root from climbed kept in
         let right : (n : ℕ) → e ≤ start C w n → occ n G ≡ 0 = λ n z. ap (occ n) went-is ∙ edge-right C P w n e (s .0) (trimsOn from) (s .1) (s .2) z in
+        let fits : freeCount w + (length G + r .count) ≤ P = omega (arith, l, count-is, R .free, R .free-in) in
         record {
-          reset = resettable (omega arith);
+          reset = resettable (omega (arith, l));
           low = shaped .1;
           long = shaped .2;
           trims = subst (λ (ts : List (ℕ × ℕ)). Trims C P w ts) (sym trims-is) (edge-trims C P w e root from climbed kept);
-          few = omega arith;
-          found = a;
+          few = omega (arith, a .0);
+          found = a .1;
           stays = untouched;
-          copies-stay = copies-outside C P w e G right h root (sound-at (level C w h) C w h root (start C w root) Open ∙ R .good) (subst (Untouched G) (sym trims-are) untouched) (listed nodes 0 k) q;
-          room = omega (arith, R .header .pool-high);
+          copies-stay = copies-outside C P w e G right h root (sound-at (level C w h) C w h root (start C w root) Open ∙ R .good) (subst (Untouched G) (sym trims-are) untouched) (listed (r .nodes) 0 (r .count)) (found-sound r are q);
+          room = omega (arith, fits, R .header .pool-high);
         }

@@ -2,4 +2,3 @@ pub mod Outside
 pub mod Order
 pub mod Written
 pub mod Edges
-pub mod Outcomes
