@@ -65,7 +65,7 @@ module _ {C : Shape} {P : ℕ} {w W : List ℕ} {k j : ℕ} {s : List ℕ} {p : 
   enough l = sym (f .told ∙ none-left (f .seen) (omega (arith, f .many)))
 
   -- there are visits left where some node is
-  pub some-left : j < k → 0 < p .depth
+  some-left : j < k → 0 < p .depth
   unfolding lefts
   some-left l =
       by-test (ltb 0 (p .depth)) (λ t. ltb-true 0 (p .depth) t)
@@ -76,9 +76,12 @@ module _ {C : Shape} {P : ℕ} {w W : List ℕ} {k j : ℕ} {s : List ℕ} {p : 
       none [] b e = refl
       none (x ∷ a) b e = let y : _≡_ {A = ℕ} 0 1 = cc in absurd (omega arith)
 
-  module _ (z : 0 < p .depth) where
+  module _ (l : j < k) where
+    pub some-depth : 0 < p .depth
+    some-depth = some-left l
+
     pops : trail p ≡ lastOf p ∷ above p
-    pops = stack-pop (p .positions) (p .depth) z
+    pops = stack-pop (p .positions) (p .depth) some-depth
 
     on-top : (m : ℕ) → occ m (onPath (trail p)) ≡ occ m (lastOf p .node .0 ∷ []) + occ m (onPath (above p))
     unfolding onPath
@@ -89,85 +92,84 @@ module _ {C : Shape} {P : ℕ} {w W : List ℕ} {k j : ℕ} {s : List ℕ} {p : 
     same-last = f .same (lastOf p .node .0) (omega (arith, on-top (lastOf p .node .0), occ-self (lastOf p .node .0)))
 
     pub last-in : (lastOf p .node .0 < P) × (count C s (lastOf p .node .0) ≤ C .cap)
-    last-in = let t = valid-top C P w p z (f .valid) in (t .inside, omega (arith, t .narrow, same-last 1 (omega arith)))
+    last-in = let t = valid-top C P w p some-depth (f .valid) in (t .inside, omega (arith, t .narrow, same-last 1 (omega arith)))
 
     pub same-step : (x : Step) → x ≡ stepping C s (lastOf p .node .0) (lastOf p .index) → x ≡ stepping C w (lastOf p .node .0) (lastOf p .index)
-    same-step x e = e ∙ sym (step-same C w s (lastOf p .node .0) (lastOf p .index) same-last (valid-top C P w p z (f .valid) .narrow))
+    same-step x e = e ∙ sym (step-same C w s (lastOf p .node .0) (lastOf p .index) same-last (valid-top C P w p some-depth (f .valid) .narrow))
 
-    module _ (l : j < k) where
-      -- the next visit is no unsound node
-      pub sure : Sure C P w p
-      unfolding clean
-      sure =
+    -- the next visit is no unsound node
+    pub sure : Sure C P w p
+    unfolding clean
+    sure =
+        record {
+          valid = f .valid;
+          deep = f .deep;
+          long = f .long;
+          no-bad = λ m a. (let q = first-seen (f .seen) (f .after) _ (Bad m) (sym (f .parts) ∙ a .one) (omega (arith, f .many)) in
+              absurd (subst (λ (vs : List Visit). T (clean vs)) (q .1) (f .all-clean)));
+        }
+
+    -- the last node is left, and freed
+    module _ (e : Up ≡ stepping C w (lastOf p .node .0) (lastOf p .index)) where
+      pub goes-out : Freeable C P w W k (j + 1) (freed C s (lastOf p .node .0)) (popped p)
+      unfolding clean lefts enters freeAll
+      goes-out =
+          let n = lastOf p .node .0 in
+          let a = step-up sure some-depth e in
+          let q = first-seen (f .seen) (f .after) (left false C P w (popped p)) (Leave n) (sym (f .parts) ∙ a .one) (omega (arith, f .many)) in
+          let more = q .0 in
+          let long-is : length (lefts (f .seen)) ≡ suc (length (lefts more)) = ap (λ (vs : List Visit). length (lefts vs)) (q .1) in
+          let in-is : (m : ℕ) → occ m (enters (f .seen)) ≡ occ m (enters more) = λ m. ap (λ (vs : List Visit). occ m (enters vs)) (q .1) in
           record {
-            valid = f .valid;
-            deep = f .deep;
+            header = header-at (C .cap) P s (freed C s n) (f .header) (freed-length C s n);
+            valid = a .valid;
+            deep = omega (arith, f .deep);
             long = f .long;
-            no-bad = λ m a. (let q = first-seen (f .seen) (f .after) _ (Bad m) (sym (f .parts) ∙ a .one) (omega (arith, f .many)) in
-                absurd (subst (λ (vs : List Visit). T (clean vs)) (q .1) (f .all-clean)));
+            seen = more;
+            after = f .after;
+            parts = q .2;
+            all-clean = subst (λ (vs : List Visit). T (clean vs)) (q .1) (f .all-clean);
+            once-each = λ m. omega (arith, f .once-each m, on-top m, in-is m);
+            same = λ m h i b. (f .same m (omega (arith, on-top m, in-is m)) i b
+                ∙ freed-keeps C s n m (λ x. absurd (omega (arith, f .once-each n, on-top n, in-is n, occ-self n, subst (λ (y : ℕ). 0 < occ y (onPath (above p)) + occ y (enters more)) x h))) i b);
+            many = omega (arith, f .many, long-is);
+            room = omega (arith, f .room, long-is, freed-count C s n P (f .header));
+            told = f .told ∙ ap (λ (vs : List Visit). freeAll C s (lefts vs)) (q .1);
           }
 
-      -- the last node is left, and freed
-      module _ (e : Up ≡ stepping C w (lastOf p .node .0) (lastOf p .index)) where
-        pub goes-out : Freeable C P w W k (j + 1) (freed C s (lastOf p .node .0)) (popped p)
-        unfolding clean lefts enters freeAll
-        goes-out =
-            let n = lastOf p .node .0 in
-            let a = step-up sure z e in
-            let q = first-seen (f .seen) (f .after) (left false C P w (popped p)) (Leave n) (sym (f .parts) ∙ a .one) (omega (arith, f .many)) in
-            let more = q .0 in
-            let long-is : length (lefts (f .seen)) ≡ suc (length (lefts more)) = ap (λ (vs : List Visit). length (lefts vs)) (q .1) in
-            let in-is : (m : ℕ) → occ m (enters (f .seen)) ≡ occ m (enters more) = λ m. ap (λ (vs : List Visit). occ m (enters vs)) (q .1) in
-            record {
-              header = header-at (C .cap) P s (freed C s n) (f .header) (freed-length C s n);
-              valid = a .valid;
-              deep = omega (arith, f .deep);
-              long = f .long;
-              seen = more;
-              after = f .after;
-              parts = q .2;
-              all-clean = subst (λ (vs : List Visit). T (clean vs)) (q .1) (f .all-clean);
-              once-each = λ m. omega (arith, f .once-each m, on-top m, in-is m);
-              same = λ m h i b. (f .same m (omega (arith, on-top m, in-is m)) i b
-                  ∙ freed-keeps C s n m (λ x. absurd (omega (arith, f .once-each n, on-top n, in-is n, occ-self n, subst (λ (y : ℕ). 0 < occ y (onPath (above p)) + occ y (enters more)) x h))) i b);
-              many = omega (arith, f .many, long-is);
-              room = omega (arith, f .room, long-is, freed-count C s n P (f .header));
-              told = f .told ∙ ap (λ (vs : List Visit). freeAll C s (lefts vs)) (q .1);
-            }
+      pub less-out : length (left false C P w (popped p)) < length (left false C P w p)
+      less-out = falls (step-up sure some-depth e)
 
-        pub less-out : length (left false C P w (popped p)) < length (left false C P w p)
-        less-out = falls (step-up sure z e)
+    -- a child is entered
+    module _ (c : ℕ) (e : Down (record { 0 = c }) ≡ stepping C w (lastOf p .node .0) (lastOf p .index)) where
+      pub goes-in : Freeable C P w W k j s (enteredPath p c)
+      unfolding clean lefts enters onPath
+      goes-in =
+          let n = lastOf p .node .0 in
+          let a = step-down sure some-depth e in
+          let q = first-seen (f .seen) (f .after) (left false C P w (enteredPath p c)) (Enter c) (sym (f .parts) ∙ a .one) (omega (arith, f .many)) in
+          let more = q .0 in
+          let left-is : lefts (f .seen) ≡ lefts more = ap (λ (vs : List Visit). lefts vs) (q .1) in
+          let on-is : (m : ℕ) → occ m (onPath (trail (enteredPath p c))) + occ m (enters more) ≡ occ m (onPath (trail p)) + occ m (enters (f .seen)) =
+          λ m. omega (arith, on-top m, ap (λ (vs : List Visit). occ m (enters vs)) (q .1), occ-cons m c (enters more), ap (λ (st : List Position). occ m (onPath st)) (entered-trail p some-depth (f .long) c (step-room sure some-depth e)), occ-cons m c (n ∷ onPath (above p)), occ-cons m n (onPath (above p))) in
+          record {
+            header = f .header;
+            valid = a .valid;
+            deep = omega (arith, step-room sure some-depth e);
+            long = entered-length p some-depth (f .long) c;
+            seen = more;
+            after = f .after;
+            parts = q .2;
+            all-clean = subst (λ (vs : List Visit). T (clean vs)) (q .1) (f .all-clean);
+            once-each = λ m. omega (arith, f .once-each m, on-is m);
+            same = λ m h. f .same m (omega (arith, on-is m));
+            many = omega (arith, f .many, ap (λ (ns : List ℕ). length ns) left-is);
+            room = omega (arith, f .room, ap (λ (ns : List ℕ). length ns) left-is);
+            told = f .told ∙ ap (freeAll C s) left-is;
+          }
 
-      -- a child is entered
-      module _ (c : ℕ) (e : Down (record { 0 = c }) ≡ stepping C w (lastOf p .node .0) (lastOf p .index)) where
-        pub goes-in : Freeable C P w W k j s (enteredPath p c)
-        unfolding clean lefts enters onPath
-        goes-in =
-            let n = lastOf p .node .0 in
-            let a = step-down sure z e in
-            let q = first-seen (f .seen) (f .after) (left false C P w (enteredPath p c)) (Enter c) (sym (f .parts) ∙ a .one) (omega (arith, f .many)) in
-            let more = q .0 in
-            let left-is : lefts (f .seen) ≡ lefts more = ap (λ (vs : List Visit). lefts vs) (q .1) in
-            let on-is : (m : ℕ) → occ m (onPath (trail (enteredPath p c))) + occ m (enters more) ≡ occ m (onPath (trail p)) + occ m (enters (f .seen)) =
-            λ m. omega (arith, on-top m, ap (λ (vs : List Visit). occ m (enters vs)) (q .1), occ-cons m c (enters more), ap (λ (st : List Position). occ m (onPath st)) (entered-trail p z (f .long) c (step-room sure z e)), occ-cons m c (n ∷ onPath (above p)), occ-cons m n (onPath (above p))) in
-            record {
-              header = f .header;
-              valid = a .valid;
-              deep = omega (arith, step-room sure z e);
-              long = entered-length p z (f .long) c;
-              seen = more;
-              after = f .after;
-              parts = q .2;
-              all-clean = subst (λ (vs : List Visit). T (clean vs)) (q .1) (f .all-clean);
-              once-each = λ m. omega (arith, f .once-each m, on-is m);
-              same = λ m h. f .same m (omega (arith, on-is m));
-              many = omega (arith, f .many, ap (λ (ns : List ℕ). length ns) left-is);
-              room = omega (arith, f .room, ap (λ (ns : List ℕ). length ns) left-is);
-              told = f .told ∙ ap (freeAll C s) left-is;
-            }
+      pub less-in : length (left false C P w (enteredPath p c)) < length (left false C P w p)
+      less-in = falls (step-down sure some-depth e)
 
-        pub less-in : length (left false C P w (enteredPath p c)) < length (left false C P w p)
-        less-in = falls (step-down sure z e)
-
-        pub room-in : (p .depth < 32) × (lastOf p .index < C .cap)
-        room-in = (step-room sure z e, step-short sure z e)
+      pub room-in : (p .depth < 32) × (lastOf p .index < C .cap)
+      room-in = (step-room sure some-depth e, step-short sure some-depth e)
