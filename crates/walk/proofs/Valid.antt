@@ -4,24 +4,18 @@ use mathlib.Core.List.{List, [], _∷_}
 use mathlib.Core.Path.{_≡_, sym, subst}
 use native.Mathlib.Omega.{arith}
 use lib.ListN.{getD}
-use lib.Dec.{ltb}
-use Rattle.model.specs.Words.{Shape, pick, height, count, row}
-use Rattle.model.specs.Tree.{Open, Below}
+use Rattle.model.specs.Words.{Shape, height, count}
 use Rattle.model.specs.Paths.{noPosition, stack, trail, lastOf, above}
 use Rattle.model.specs.declared.path.Position.{Position}
 use Rattle.model.specs.declared.path.Path.{Path}
-use Rattle.model.proofs.Paths.{stack-pop, stack-none}
-use Rattle.walk.specs.Left.{bound, Valid, lowest, ValidPath}
+use Rattle.model.proofs.Paths.{stack-pop}
+use Rattle.walk.specs.Left.{Valid, lowest, ValidPath}
 
 module _ (C : Shape) (P : ℕ) (w : List ℕ) where
   pub valid-depth : (l : List Position) (d h : ℕ) → Valid C P w h (stack l d) → h + d ≤ 32
   unfolding Valid stack
   valid-depth l zero h v = omega arith
   valid-depth l (suc d) h v = omega (arith, valid-depth l d (suc h) (v .above))
-
-  pub valid-deep : (p : Path) → ValidPath C P w p → p .depth ≤ 32
-  unfolding ValidPath
-  valid-deep p v = omega (arith, valid-depth (p .positions) (p .depth) (lowest C w (trail p)) v)
 
   -- position d - 1, where the nodes from it on have height h
   pub record Top (l : List Position) (d h : ℕ) : Type 0 where
@@ -53,13 +47,3 @@ module _ (C : Shape) (P : ℕ) (w : List ℕ) where
   valid-top p z v =
       top (p .positions) (p .depth) (height C w (lastOf p .node .0)) z
       (subst (λ (st : List Position). Valid C P w (lowest C w st) (trail p)) (stack-pop (p .positions) (p .depth) z) v)
-
-pub bound-pop : (C : Shape) (w : List ℕ) (l : List Position) (d : ℕ) → 0 < d
-    → bound C w (stack l d)
-    ≡ pick (ltb (getD l (d - 1) noPosition .index) (count C w (getD l (d - 1) noPosition .node .0))) (Below (row C w (getD l (d - 1) noPosition .node .0) (getD l (d - 1) noPosition .index))) (bound C w (stack l (d - 1)))
-unfolding bound
-bound-pop C w l d z = rw (stack-pop l d z)
-
-pub bound-none : (C : Shape) (w : List ℕ) (l : List Position) (d : ℕ) → d ≤ 0 → bound C w (stack l d) ≡ Open
-unfolding bound
-bound-none C w l d z = rw (stack-none l d (omega arith))
