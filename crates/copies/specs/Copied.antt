@@ -12,6 +12,8 @@ use Rattle.model.specs.Prune as Prune
 use Rattle.model.specs.declared.id.NodeNo.{NodeNo}
 use Rattle.model.specs.declared.path.Path.{Path}
 use Rattle.boundary.specs.Trims.{trimsOf}
+use Rattle.node.specs.Layout.{shapeOf}
+use Rattle.node.specs.declared.layout.Layout.{Layout}
 use Rattle.node_chain.specs.Chain.{listed}
 use Rattle.copies.specs.declared.CopyTest.{CopyTest}
 use Rattle.copies.specs.declared.CopyTest.the-variants.{Unsound, Sound}
@@ -43,3 +45,7 @@ pub record SoundTop (C : Shape) (P : ℕ) (w : List ℕ) (n : ℕ) : Type 0 wher
 unfoldable pub Collapses : Shape → ℕ → List ℕ → ℕ → Path → Prune.Copies → Type 0
 Collapses C P w n edge c =
     (e : ℕ) → trims (suc (height C w n)) e (rootTree C w n) (start C w n) ≡ trimsOf edge → c ≡ Prune.copiesFrom C P (height C w n) e (rootTree C w n) (start C w n)
+
+-- a node that can be asked for its copy
+abbrev pub Asked : Layout → List ℕ → ℕ → ℕ → Type 0
+Asked l w n h = (n < l .pool) × (1 ≤ count (shapeOf l) w n) × (count (shapeOf l) w n ≤ l .capacity) × (0 < h)

@@ -3,11 +3,11 @@
 ghost use mathlib.Core.Path.{_≡_};
 ghost use Prim.Native.Nat.{_+_, _≤_, _<_};
 ghost use lib.ListN.{length};
-ghost use Rattle.model.specs.Words.{count, height};
+ghost use Rattle.model.specs.Words.{height};
 ghost use Rattle.node.specs.Layout.{Fits, shapeOf};
 ghost use Rattle.boundary.specs.Trims.{NoneBelow};
 ghost use Rattle.trim.specs.Nodes.{AllIn};
-ghost use Rattle.copies.specs.Copied.{Collapses, SoundTop, copiesOf, copyAt};
+ghost use Rattle.copies.specs.Copied.{Asked, Collapses, SoundTop, copiesOf, copyAt};
 use model::id::NodeNo;
 use model::path::Path;
 use node::layout::Layout;
@@ -37,7 +37,7 @@ pub enum Copy {
 // The copy at branch n of this height, of which k entries go: while one entry stays, and it is the last, its child is copied.
 fn copy_at(l: Layout, s: &[u64], n: NodeNo, height: u64, k: u64) -> Copy
     requires { ⌜ Fits l (now s) ⌝ }
-    requires { ⌜ (n .0 < l .pool) × (1 ≤ count (shapeOf l) (now s) (n .0)) × (count (shapeOf l) (now s) (n .0) ≤ l .capacity) × (0 < height) ⌝ }
+    requires { ⌜ Asked l (now s) (n .0) height ⌝ }
     ensures { λ r. ⌜ r ≡ copyAt (shapeOf l) (l .pool) (now (s .entry)) (n .0) height k ⌝ }
 {
     let h = l.header(s, n);

@@ -2,20 +2,14 @@
 
 ghost use mathlib.Core.Path.{_≡_};
 ghost use mathlib.Core.List.{[], _∷_};
-ghost use mathlib.Core.Bool.{true, false};
-ghost use Prim.Native.Nat.{suc, _+_, _-_, _≤_, _<_};
-ghost use lib.ListN.{drop, length};
-ghost use Rattle.model.specs.Words.{height, start};
-ghost use Rattle.model.specs.Tree.{Open, level, nodeAt};
-ghost use Rattle.model.specs.Reading.{passes, visits};
-ghost use Rattle.model.specs.Prune.{on, ranOut, scan};
+ghost use Prim.Native.Nat.{_+_, _-_, _≤_, _<_};
+ghost use lib.ListN.{length};
+ghost use Rattle.model.specs.Words.{height};
 ghost use Rattle.model.specs.Paths.{entered};
 ghost use Rattle.node.specs.Layout.{Fits, shapeOf};
-ghost use Rattle.walk.specs.Left.{Valid, below};
+ghost use Rattle.walk.specs.Left.{Valid};
 ghost use Rattle.walk.specs.Turn.{outOf};
-ghost use Rattle.boundary.specs.Behind.{Passed};
-ghost use Rattle.prefix_leaf.specs.Progress.{Last};
-ghost use Rattle.prefix.specs.Named.{Ending};
+ghost use Rattle.prefix.specs.Named.{Begun, Ending, PassedRoot, belowScan, treeScan};
 ghost use Rattle.prefix_leaf.specs.Progress.{namedOf};
 use model::answer::Refusal;
 use model::id::NodeNo;
@@ -69,8 +63,8 @@ fn scan_below(
     requires { ⌜ Fits l (now s) ⌝ }
     requires { ⌜ Valid (shapeOf l) (l .pool) (now s) (height (shapeOf l) (now s) (node .0)) (entered (node .0) ∷ []) ⌝ }
     requires { ⌜ (first ≡ outOf (shapeOf l) (l .pool) (now s) (height (shapeOf l) (now s) (node .0)) (node .0)) × (left ≡ 0) ⌝ }
-    requires { ⌜ (Passed (shapeOf l) (l .pool) (now s) (height (shapeOf l) (now s) (node .0)) (node .0) []) × (length (now ids) ≤ place → Last (shapeOf l) (now s) (node .0) used (reached .0)) ⌝ }
-    ensures answer { λ r. ⌜ namedOf (end .0) (r .answer) ≡ ranOut (end .0) (scan (shapeOf l) (now (s .entry)) (end .0) (below false (shapeOf l) (l .pool) (now (s .entry)) (node .0)) (on (drop place (now (ids .entry))) place (reached .0))) ⌝ }
+    requires { ⌜ Begun l (now s) (node .0) (now ids) place used (reached .0) ⌝ }
+    ensures answer { λ r. ⌜ namedOf (end .0) (r .answer) ≡ belowScan l (now (s .entry)) (end .0) (node .0) (now (ids .entry)) place (reached .0) ⌝ }
     ensures edge { λ r. ⌜ Ending (shapeOf l) (l .pool) (now (s .entry)) (end .0) (node .0) r ⌝ }
 {
     let mut path = Path::rooted(node);
@@ -118,10 +112,10 @@ fn scan_below(
 // The leaves from a root that passed its test, with the first of its child numbers out of range.
 pub fn scan_tree(l: Layout, s: &[u64], root: NodeNo, first: u64, end: RowID, ids: &[u64]) -> Prefix
     requires { ⌜ Fits l (now s) ⌝ }
-    requires { ⌜ (root .0 < l .pool) × (height (shapeOf l) (now s) (root .0) ≤ 31) × (passes false (shapeOf l) (height (shapeOf l) (now s) (root .0)) (nodeAt (shapeOf l) (now s) (root .0)) (start (shapeOf l) (now s) (root .0)) Open ≡ true) ⌝ }
+    requires { ⌜ PassedRoot l (now s) (root .0) ⌝ }
     requires { ⌜ first ≡ outOf (shapeOf l) (l .pool) (now s) (height (shapeOf l) (now s) (root .0)) (root .0) ⌝ }
     requires { ⌜ 0 < length (now ids) ⌝ }
-    ensures answer { λ r. ⌜ namedOf (end .0) (r .answer) ≡ ranOut (end .0) (scan (shapeOf l) (now (s .entry)) (end .0) (visits false (shapeOf l) (l .pool) (suc (height (shapeOf l) (now (s .entry)) (root .0))) (root .0) (level (shapeOf l) (now (s .entry)) (suc (height (shapeOf l) (now (s .entry)) (root .0))) (root .0)) (start (shapeOf l) (now (s .entry)) (root .0)) Open) (on (now (ids .entry)) 0 0)) ⌝ }
+    ensures answer { λ r. ⌜ namedOf (end .0) (r .answer) ≡ treeScan l (now (s .entry)) (end .0) (root .0) (now (ids .entry)) ⌝ }
     ensures edge { λ r. ⌜ Ending (shapeOf l) (l .pool) (now (s .entry)) (end .0) (root .0) r ⌝ }
 {
     match prefix_leaf::scan_node(l, s, root, end, ids, 0, RowID(0)) {

@@ -1,11 +1,14 @@
 -- The entries of a leaf against the list, as the code answers it.
 use Prim.Native.Nat.{ℕ, _-_, _≤_}
+use lib.Dec.{eqb}
 use mathlib.Core.Path.{_≡_}
 use mathlib.Core.List.{List, []}
 use lib.ListN.{drop}
 use Rattle.model.specs.Refusals.{Answer, result, refused, refusal}
-use Rattle.model.specs.Words.{Shape, height, count}
-use Rattle.model.specs.Prune.{Scan, stopped, on, entryEnd}
+use Rattle.model.specs.Words.{Shape, pick, height, count}
+use Rattle.model.specs.Prune.{Scan, stopped, on, entryEnd, scanLeaf}
+use Rattle.node.specs.Layout.{shapeOf}
+use Rattle.node.specs.declared.layout.Layout.{Layout}
 use Rattle.prefix_leaf.specs.declared.Progress.{Progress}
 use Rattle.prefix_leaf.specs.declared.Progress.the-variants.{On, Stopped}
 use Rattle.prefix_leaf.specs.declared.Named.{Named}
@@ -20,6 +23,11 @@ stoppedBy (refused a d) = stopped a d
 abbrev pub progressOf : List ℕ → Progress → Scan
 progressOf ids (On p c) = on (drop p ids) p (c .0)
 progressOf ids (Stopped r) = stoppedBy (refusal r)
+
+-- what node n comes to, where it is a leaf, against the ids from place p on; the last entry before ended at c
+abbrev pub nodeScan : Layout → List ℕ → ℕ → ℕ → List ℕ → ℕ → ℕ → Scan
+nodeScan l w e n ids p c =
+    pick (eqb (height (shapeOf l) w n) 0) (scanLeaf (shapeOf l) w e n 0 (count (shapeOf l) w n) (on (drop p ids) p c)) (on (drop p ids) p c)
 
 -- no ids are left, and the last entry ends at e
 abbrev pub namedOf : ℕ → Named → Scan

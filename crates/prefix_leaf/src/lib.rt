@@ -3,12 +3,10 @@
 ghost use mathlib.Core.Path.{_≡_};
 ghost use mathlib.Core.List.{[]};
 ghost use Prim.Native.Nat.{_+_, _-_, _≤_, _<_};
-ghost use lib.Dec.{eqb};
-ghost use lib.ListN.{drop};
-ghost use Rattle.model.specs.Words.{count, height, pick};
-ghost use Rattle.model.specs.Prune.{entryEnd, on, ranOut, scanLeaf};
+ghost use Rattle.model.specs.Words.{count};
+ghost use Rattle.model.specs.Prune.{entryEnd, on, ranOut};
 ghost use Rattle.node.specs.Layout.{Fits, shapeOf};
-ghost use Rattle.prefix_leaf.specs.Progress.{EndsAt, namedOf, progressOf};
+ghost use Rattle.prefix_leaf.specs.Progress.{EndsAt, namedOf, nodeScan, progressOf};
 use model::answer::Refusal;
 use model::id::NodeNo;
 use model::id::RowID;
@@ -51,7 +49,7 @@ pub fn scan_node(
 ) -> Progress
     requires { ⌜ Fits l (now s) ⌝ }
     requires { ⌜ (n .0 < l .pool) × (count (shapeOf l) (now s) (n .0) ≤ l .capacity) ⌝ }
-    ensures { λ r. ⌜ progressOf (now (ids .entry)) r ≡ pick (eqb (height (shapeOf l) (now (s .entry)) (n .0)) 0) (scanLeaf (shapeOf l) (now (s .entry)) (end .0) (n .0) 0 (count (shapeOf l) (now (s .entry)) (n .0)) (on (drop place (now (ids .entry))) place (reached .0))) (on (drop place (now (ids .entry))) place (reached .0)) ⌝ }
+    ensures { λ r. ⌜ progressOf (now (ids .entry)) r ≡ nodeScan l (now (s .entry)) (end .0) (n .0) (now (ids .entry)) place (reached .0) ⌝ }
 {
     let h = l.header(s, n);
     if !h.is_leaf() {

@@ -1,10 +1,11 @@
 -- What is known before an accepted prune writes.
 use Prim.Native.Nat.{ℕ, _+_, _<_, _≤_}
-use mathlib.Core.List.{List}
+use mathlib.Core.List.{List, _++_, reverse}
 use mathlib.Core.Path.{_≡_}
 use lib.ListN.{length, take}
-use Rattle.model.specs.Words.{Shape, freeCount}
+use Rattle.model.specs.Words.{Shape, freeCount, freeAll, emptied}
 use Rattle.model.specs.Reading.{occ, rootNodes}
+use Rattle.model.specs.Prune.{copyAll, trimAll}
 use Rattle.model.specs.declared.id.NodeNo.{NodeNo}
 use Rattle.model.specs.declared.path.Path.{Path}
 use Rattle.node_chain.specs.Chain.{listed}
@@ -31,3 +32,10 @@ pub record Writable (C : Shape) (P : ℕ) (w : List ℕ) (root : ℕ) (edge : Pa
   pub stays : Untouched (wentOf C w (trimsOf edge)) (trimsOf edge)
   pub copies-stay : Outside (wentOf C w (trimsOf edge)) (listed nodes 0 k)
   pub room : freeCount w + length (wentOf C w (trimsOf edge)) + k ≤ 65535
+
+-- the words that a cut leaves, and a reset
+abbrev pub cutWords : Shape → List ℕ → ℕ → ℕ → List (ℕ × ℕ) → List ℕ → List ℕ
+cutWords C w n e T ns = freeAll C (copyAll C (trimAll C w e T) n ns) (wentOf C w T ++ reverse ns)
+
+abbrev pub resetWords : Shape → List ℕ → ℕ → ℕ → List (ℕ × ℕ) → List ℕ
+resetWords C w n e T = freeAll C (emptied C w n e) (wentOf C w T)

@@ -1,19 +1,13 @@
 // The cut at an edge: what it answers, and what it writes.
 
 ghost use mathlib.Core.Path.{_≡_};
-ghost use mathlib.Core.List.{_++_, reverse};
-ghost use lib.ListN.{take};
 ghost use Prim.Native.Nat.{_+_, _-_, _<_};
-ghost use Rattle.model.specs.Words.{emptied, freeAll};
-ghost use Rattle.model.specs.Reading.{rootNodes};
 ghost use Rattle.model.specs.Refusals.{pruned};
-ghost use Rattle.model.specs.Prune.{copyAll, trimAll};
 ghost use Rattle.node.specs.Layout.{shapeOf};
 ghost use Rattle.node_chain.specs.Chain.{listed};
-ghost use Rattle.boundary.specs.Edge.{wentOf};
 ghost use Rattle.boundary.specs.Trims.{trimsOf};
 ghost use Rattle.prune_cut.specs.Found.{AllGo, EdgedIn, RootedIn, SomeStay, cutAtIn, cutIn, resetIn};
-ghost use Rattle.prune_cut.specs.Writable.{Resettable, Writable};
+ghost use Rattle.prune_cut.specs.Writable.{Resettable, Writable, cutWords, resetWords};
 use copies;
 use copies::CopyTest;
 use edge::Boundary;
@@ -43,7 +37,7 @@ fn write_edge(
     k: usize,
 )
     requires { ⌜ Writable (shapeOf l) (l .pool) (now s) (root .0) edge j nodes k ⌝ }
-    ensures { λ _. ⌜ now (s .exit) ≡ freeAll (shapeOf l) (copyAll (shapeOf l) (trimAll (shapeOf l) (now (s .entry)) (end .0) (trimsOf edge)) (root .0) (listed nodes 0 k)) (wentOf (shapeOf l) (now (s .entry)) (trimsOf edge) ++ reverse (listed nodes 0 k)) ⌝ }
+    ensures { λ _. ⌜ now (s .exit) ≡ cutWords (shapeOf l) (now (s .entry)) (root .0) (end .0) (trimsOf edge) (listed nodes 0 k) ⌝ }
 {
     reclaim::free_first(l, s, root, j);
     trim::trim_all(l, s, edge, end);
@@ -54,7 +48,7 @@ fn write_edge(
 // Nothing is left: all below the root is freed, and the root is an empty leaf from the end on.
 fn write_reset(l: Layout, s: &mut [u64], root: NodeNo, end: RowID, edge: Path, j: u64)
     requires { ⌜ Resettable (shapeOf l) (l .pool) (now s) (root .0) edge j ⌝ }
-    ensures { λ _. ⌜ now (s .exit) ≡ freeAll (shapeOf l) (emptied (shapeOf l) (now (s .entry)) (root .0) (end .0)) (wentOf (shapeOf l) (now (s .entry)) (trimsOf edge)) ⌝ }
+    ensures { λ _. ⌜ now (s .exit) ≡ resetWords (shapeOf l) (now (s .entry)) (root .0) (end .0) (trimsOf edge) ⌝ }
 {
     reclaim::free_first(l, s, root, j);
     write::empty_node(l, s, root, end);
