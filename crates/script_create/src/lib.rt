@@ -12,7 +12,7 @@ use model::id::RowID;
 use node::layout::Layout;
 
 // The words that a create gets, of so many.
-fn create_length(all: usize, capacity: u64, nodes: u64) -> usize
+pub fn create_length(all: usize, capacity: u64, nodes: u64) -> usize
     ensures { λ r. ⌜ r ≡ createLength all capacity nodes ⌝ }
 {
     let l = Layout {

@@ -1,8 +1,8 @@
 // A call as the bytes of a record.
 
-use crate::line;
-use crate::line::Word;
 use libc::STDOUT_FILENO;
+use store_text::line;
+use store_text::line::Word;
 
 // The kind of no record.
 pub const NO_KIND: u64 = 0;

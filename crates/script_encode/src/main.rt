@@ -3,11 +3,13 @@
 // goes to standard error.
 
 pub mod encode;
-pub mod line;
-pub mod number;
 
-use crate::line::Word;
 use libc::STDERR_FILENO;
+use store_text::line;
+use store_text::line::Input;
+use store_text::line::Word;
+use store_text::number;
+use store_text::number::Numbers;
 
 // A wrong line: its number and what is wrong with it. A program has no exit status, so one bad record follows: what was
 // written up to here is no good script.
@@ -29,45 +31,46 @@ fn turn_line(b: &[u8], len: usize, first: Word, at: u64) -> bool {
         return false;
     }
     let mut words = [0u64; 512];
-    let n = number::read_numbers(b, len, first.to, &mut words);
-    if !n.are_all {
+    let Numbers::All(count) = number::read_numbers(b, len, first.to, &mut words) else {
         fail(at, b"an argument is no number of 64 bits");
         return false;
-    }
-    if !encode::is_size(kind, n.count) {
+    };
+    if !encode::is_size(kind, count) {
         fail(at, b"this call has another number of arguments");
         return false;
     }
-    encode::write_record(kind, &words, n.count);
+    encode::write_record(kind, &words, count);
     true
 }
 
-// The next line. Whether to go on.
-fn next_line(b: &mut [u8], at: u64) -> bool {
-    let l = line::read_line(b);
-    if !l.is_there {
-        return false;
-    }
-    if !l.fits {
+// A line that was read, without its end. Whether it is right.
+fn take_line(b: &[u8], len: usize, at: u64) -> bool {
+    if 65535 < len {
         fail(at, b"more than 65,535 bytes");
         return false;
     }
-    let first = line::next_word(&b[..], l.len, 0);
+    let first = line::next_word(b, len, 0);
     if first.from == first.to {
         return true;
     }
-    if line::byte_at(&b[..], first.from) == b'#' {
+    if line::byte_at(b, first.from) == b'#' {
         return true;
     }
-    turn_line(&b[..], l.len, first, at)
+    turn_line(b, len, first, at)
 }
 
 // A proved loop has to end, and nothing says that the input does: the lines are counted up to a number that no run reaches.
-fn run(b: &mut [u8]) {
+fn run(block: &mut [u8], b: &mut [u8]) {
+    let mut input = Input { at: 0, end: 0 };
     let mut at: u64 = 1;
     while at < u64::MAX {
-        let goes = next_line(b, at);
-        if !goes {
+        let l = line::read_line(block, input, b);
+        input = l.input;
+        if !l.is_there {
+            return;
+        }
+        let right = take_line(b, l.len, at);
+        if !right {
             return;
         }
         at += 1;
@@ -75,6 +78,7 @@ fn run(b: &mut [u8]) {
 }
 
 fn main() {
+    let mut block = io::buffer();
     let mut b = io::large_buffer();
-    run(&mut b);
+    run(&mut block, &mut b);
 }

@@ -1,0 +1,103 @@
+// The leaf walk of the store program: the cursor and a list of records are lent by `&mut`.
+
+ghost use Prim.Native.Nat.{_≤_};
+use cursor_lent;
+use lines;
+use model::answer::NextLeaf;
+use model::cursor::RowPageIndexMemCursor;
+use model::id::PageID;
+use model::id::RowID;
+use model::node::PageEntry;
+use store_print;
+
+// The cursor after a step, the place after its lines, and whether it gave a leaf.
+pub struct Stepped {
+    pub cursor: RowPageIndexMemCursor,
+    pub at: usize,
+    pub is_leaf: bool,
+}
+
+fn at_most(len: usize) -> usize
+    ensures { λ r. ⌜ r ≤ 4094 ⌝ }
+{
+    if 4094 < len {
+        return 4094;
+    }
+    len
+}
+
+pub fn seek(cursor: RowPageIndexMemCursor, row: u64) -> RowPageIndexMemCursor {
+    cursor_lent::seek_on(cursor, RowID(row))
+}
+
+fn is_leaf(a: NextLeaf) -> bool {
+    match a {
+        NextLeaf::Found(_) => true,
+        NextLeaf::Done => false,
+        NextLeaf::Refused(_) => false,
+    }
+}
+
+// The entries that a step gave, where they are shown.
+fn put_list(out: &mut [u8], at: usize, shows: bool, a: NextLeaf, list: [PageEntry; 4094]) -> usize {
+    if !shows {
+        return at;
+    }
+    match a {
+        NextLeaf::Found(leaf) => store_print::put_entries(out, at, list, leaf.count),
+        NextLeaf::Done => at,
+        NextLeaf::Refused(_) => at,
+    }
+}
+
+// A step on a list of so many records, and its lines: those of the entries where they are shown.
+pub fn next(
+    s: &[u64],
+    cursor: RowPageIndexMemCursor,
+    len: usize,
+    shows: bool,
+    out: &mut [u8],
+    at: usize,
+) -> Stepped {
+    let records = [PageEntry {
+        row_id: RowID(0),
+        page_id: PageID(0),
+    }; 4094];
+    let step = cursor_lent::next_on(s, cursor, records, at_most(len));
+    let answer = step.answer;
+    let after = step.cursor;
+    let list = step.list;
+    let place = store_print::room(out, at);
+    let place = lines::put_next(out, place, answer);
+    let place = put_list(out, place, shows, answer, list);
+    Stepped {
+        cursor: after,
+        at: place,
+        is_leaf: is_leaf(answer),
+    }
+}
+
+// Steps until there is no leaf, or the most that a pool can hold.
+pub fn walk(s: &[u64], row: u64, len: usize, out: &mut [u8], at: usize) -> usize {
+    let mut cursor = seek(RowPageIndexMemCursor::new(), row);
+    let mut place = at;
+    let mut more: u64 = 65535;
+    while 0 < more {
+        let step = next(s, cursor, len, false, out, place);
+        place = step.at;
+        if !step.is_leaf {
+            return place;
+        }
+        cursor = step.cursor;
+        more -= 1;
+    }
+    place
+}
+
+// The cursor's row, and 1 where it is done.
+pub fn put_cursor(out: &mut [u8], at: usize, c: RowPageIndexMemCursor) -> usize {
+    if c.done {
+        return text::put_line2(out, at, b"cursor", c.row_id.0, 1);
+    }
+    text::put_line2(out, at, b"cursor", c.row_id.0, 0)
+}
