@@ -8,16 +8,16 @@ use Rattle.model.specs.Tree.{Limit, Open, Below}
 use Rattle.model.specs.Reading.{rootVisits}
 use Rattle.model.specs.Refusals.{Answer, result}
 use Rattle.model.specs.Refusals as Answers
-use Rattle.node.specs.Layout.{shapeOf, opened}
+use Rattle.node_read.specs.Layout.{shapeOf, opened}
 use Rattle.node_test.specs.Test.{nodeTest}
-use Rattle.node.specs.declared.header.StoreHeader.{StoreHeader}
-use Rattle.node.specs.declared.header.Opened as H
-use Rattle.node.specs.declared.header.Opened.the-variants as O
+use Rattle.node_read.specs.declared.header.StoreHeader.{StoreHeader}
+use Rattle.node_read.specs.declared.header.Opened as H
+use Rattle.node_read.specs.declared.header.Opened.the-variants as O
 use Rattle.node_test.specs.declared.NodeTest.{NodeTest}
 use Rattle.node_test.specs.declared.NodeTest.the-variants.{Unsound, Sound}
-use Rattle.tally.specs.Tally.{noCounts, tally}
-use Rattle.tally.specs.declared.Survey.{Survey}
-use Rattle.tally.specs.declared.Survey.the-variants as S
+use Rattle.tree_tally.specs.Tally.{noCounts, tally}
+use Rattle.tree_tally.specs.declared.Survey.{Survey}
+use Rattle.tree_tally.specs.declared.Survey.the-variants as S
 
 -- the header is damaged, the store is closed, a node number is out of range, or the tree is unsound
 abbrev pub refused : ℕ

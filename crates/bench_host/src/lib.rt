@@ -3,21 +3,21 @@
 
 ghost use mathlib.Core.Path.{_≡_};
 ghost use Rattle.model.specs.LeafWalk.{seek};
-ghost use Rattle.byvalue.specs.Written.{nextWordsOf};
+ghost use Rattle.next_words.specs.Written.{nextWordsOf};
 ghost use Rattle.node_test.specs.Test.{limitOf};
 ghost use Rattle.bench_host.specs.Numbers.{endNumber, limitTo, openNumber, surveyOf, testOf};
-use byvalue;
+use next_words;
 use model::answer::NextLeaf;
 use model::cursor::RowPageIndexMemCursor;
 use model::id::NodeNo;
 use model::id::RowID;
-use node::header;
-use node::header::Opened;
+use node_read::header;
+use node_read::header::Opened;
 use node_test;
 use node_test::Limit;
 use node_test::NodeTest;
-use survey;
-use tally::Survey;
+use tree_survey;
+use tree_tally::Survey;
 
 // Refused: the header is damaged, the store is closed, a node number is out of range, or the tree is unsound.
 const REFUSED: u64 = u64::MAX;
@@ -80,7 +80,7 @@ pub extern "C" fn bench_survey(words: &[u64], ends: u64) -> u64
 {
     match header::open(words) {
         Opened::Refused(_) => REFUSED,
-        Opened::Open(h) => match survey::survey_tree(h.layout, words, ends != 0, h.root) {
+        Opened::Open(h) => match tree_survey::survey_tree(h.layout, words, ends != 0, h.root) {
             Survey::Unsound(_) => REFUSED,
             Survey::Counted(k) => k.nodes,
         },
@@ -97,7 +97,7 @@ pub extern "C" fn bench_next(words: &[u64], row: u64, list: &mut [u64]) -> u64
         row_id: RowID(row),
         done: false,
     };
-    let step = byvalue::next_words(words, cursor, list);
+    let step = next_words::next_words(words, cursor, list);
     let answer = step.answer;
     match answer {
         NextLeaf::Refused(_) => REFUSED,

@@ -8,10 +8,10 @@
 // answers, stores or lists were wrong.
 
 use answer_numbers;
-use byvalue;
-use byvalue::WordStep;
-use destroy_empty;
-use leaf_step;
+use next_words;
+use next_words::WordStep;
+use call_release_empty;
+use next_step;
 use libc::STDOUT_FILENO;
 use model::answer::Checked;
 use model::answer::Created;
@@ -449,7 +449,7 @@ fn add_range(book: &mut [u64], page: u64, answer: Answer, run: State) -> State {
 
 fn append_call(s: &mut [u64], book: &mut [u64], rows: u64, page: u64, run: State) -> State {
     let want = want_insert(&book[..], run, rows);
-    let got = of_insert(insert::insert_row_page(s, rows, PageID(page)));
+    let got = of_insert(call_append::insert_row_page(s, rows, PageID(page)));
     add_range(book, page, want, judge(run, APPENDED, got, want))
 }
 
@@ -499,7 +499,7 @@ fn row_of(book: &[u64], r: State) -> u64 {
 fn lookup(s: &[u64], book: &[u64], r: State) -> State {
     let row = row_of(book, r);
     let want = want_find(book, r, row);
-    let got = of_find(find::try_find_row(s, RowID(row)));
+    let got = of_find(call_find::try_find_row(s, RowID(row)));
     let mut kind = FOUND;
     if want.a == 0 {
         kind = NOT_FOUND;
@@ -586,7 +586,7 @@ fn remove_ranges(book: &mut [u64], c: Cut, answer: Answer, run: State) -> State 
 
 fn prune_call(s: &mut [u64], book: &mut [u64], ids: &[u64], c: Cut, run: State) -> State {
     let want = want_prune(&book[..], run, c, ids);
-    let got = of_prune(prune::prune_checkpoint_prefix(s, RowID(c.start), RowID(c.end), ids));
+    let got = of_prune(call_prune::prune_checkpoint_prefix(s, RowID(c.start), RowID(c.end), ids));
     remove_ranges(book, c, want, judge(run, PRUNED, got, want))
 }
 
@@ -764,7 +764,7 @@ fn judge_leaf(book: &[u64], list: &[u64], from: u64, got: Answer, run: State) ->
 // The next leaf, in a list that was filled.
 fn next_leaf(s: &[u64], c: RowPageIndexMemCursor, list: &mut [u64], x: u64) -> WordStep {
     fill(list, x);
-    byvalue::next_words(s, c, list)
+    next_words::next_words(s, c, list)
 }
 
 fn is_last(x: Answer) -> bool {
@@ -813,7 +813,7 @@ fn walk_from(s: &[u64], book: &[u64], list: &mut [u64], row: u64, r: State) -> S
         s,
         book,
         list,
-        leaf_step::sought(RowID(row)),
+        next_step::sought(RowID(row)),
         leaf_from(book, i),
         r,
     )
@@ -854,7 +854,7 @@ fn want_check(book: &[u64], r: State) -> Answer {
 
 fn check(s: &[u64], book: &[u64], r: State) -> State {
     let want = want_check(book, r);
-    let got = of_check(full_check::full_check(s));
+    let got = of_check(call_check::full_check(s));
     judge(r, CHECKED, got, want)
 }
 
@@ -913,7 +913,7 @@ fn judge_pages(book: &[u64], list: &[u64], want: Answer, run: State) -> State {
 // A release into a list that was filled.
 fn release_into(s: &mut [u64], list: &mut [u64], pivot: u64, x: u64) -> Answer {
     fill(list, x);
-    of_destroy(destroy::destroy(s, RowID(pivot), list))
+    of_destroy(call_release::destroy(s, RowID(pivot), list))
 }
 
 fn release_call(s: &mut [u64], book: &[u64], list: &mut [u64], pivot: u64, run: State) -> State {
@@ -936,7 +936,7 @@ fn want_empty(r: State) -> Answer {
 
 fn release_empty(s: &mut [u64], run: State) -> State {
     let want = want_empty(run);
-    let got = of_destroy(destroy_empty::destroy_empty(s));
+    let got = of_destroy(call_release_empty::destroy_empty(s));
     close(want, judge(run, RELEASED, got, want))
 }
 
@@ -984,7 +984,7 @@ fn begin(start: u64, answer: Answer, run: State) -> State {
 
 fn create_call(s: &mut [u64], start: u64, run: State) -> State {
     let want = want_create(start);
-    let got = of_create(create::new(s, run.capacity, run.nodes, RowID(start)));
+    let got = of_create(call_create::new(s, run.capacity, run.nodes, RowID(start)));
     begin(start, want, judge(run, CREATED, got, want))
 }
 

@@ -6,7 +6,7 @@ use Rattle.model.specs.Refusals.{headerOk}
 use Rattle.model.specs.Tree.{pairsFrom, rising, firstRow, lastRow, meets, endSound, sound, emptyRoot}
 use Rattle.model.specs.Words.{stands, wordPlace, part, fill}
 use Rattle.answer_numbers.specs.Numbers.{answerWords}
-use Rattle.byvalue.specs.Written.{wordsOf, recordsIn}
+use Rattle.next_words.specs.Written.{wordsOf, recordsIn}
 use Rattle.host.specs.Cases.{readWords, readCursors, writtenWords, writtenExpected, steps, stepsExpected}
 
 pub cursorsRead : readWords ≡ readCursors

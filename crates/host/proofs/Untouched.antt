@@ -16,8 +16,8 @@ use Rattle.model.specs.LeafWalk.{Stepped, givesLeaf, nextLeafOf}
 use Rattle.model.specs.Release as Release
 use Rattle.model.specs.Release.{Released}
 use Rattle.model.proofs.Still.{create-still, insert-still, prune-still, destroy-still, empty-still, next-still}
-use Rattle.byvalue.specs.Written.{wordsOf, recordsIn}
-use Rattle.byvalue.proofs.Equation.{written-back}
+use Rattle.next_words.specs.Written.{wordsOf, recordsIn}
+use Rattle.next_words.proofs.Equation.{written-back}
 use Rattle.host_cursor.specs.Cursors.{cursorIn, cursorAfter}
 use Rattle.host.specs.Served.{Arrays, withWords, withPages, withCursor, withRecords, Function, create, append, find, prune, destroy, destroyEmpty, check, seek, next, Served, served, isNone, changesNothing}
 

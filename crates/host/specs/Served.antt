@@ -13,7 +13,7 @@ use Rattle.model.specs.Prune.{pruneCheckpointPrefix}
 use Rattle.model.specs.LeafWalk as LeafWalk
 use Rattle.model.specs.Release as Release
 use Rattle.model.specs.FullCheck.{fullCheck}
-use Rattle.byvalue.specs.Written.{nextWordsOf}
+use Rattle.next_words.specs.Written.{nextWordsOf}
 use Rattle.host_cursor.specs.Cursors.{cursorIn, cursorWords, cursorAfter}
 
 -- the arrays lent to a function, but that of its answer and those that it only reads; empty where it takes none

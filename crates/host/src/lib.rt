@@ -9,8 +9,8 @@ ghost use Rattle.host.specs.Served.{append, check, create, destroy, dest
 use answer_words;
 use answers;
 use answers_read;
-use byvalue;
-use destroy_empty;
+use next_words;
+use call_release_empty;
 use host_cursor;
 use model::id::PageID;
 use model::id::RowID;
@@ -28,7 +28,7 @@ pub extern "C" fn row_page_index_create(
     ensures answer { λ _. ⌜ now (answer .exit) ≡ fill (now (answer .entry)) 0 (answerWords (served (onWords (now (words .entry))) (create capacity nodes start) .answer)) ⌝ }
     ensures number { λ r. ⌜ r ≡ getD (answerWords (served (onWords (now (words .entry))) (create capacity nodes start) .answer)) 0 0 ⌝ }
 {
-    let n = answers::created_numbers(create::new(words, capacity, nodes, RowID(start)));
+    let n = answers::created_numbers(call_create::new(words, capacity, nodes, RowID(start)));
     answer_words::write(answer, n);
     n.number
 }
@@ -45,7 +45,7 @@ pub extern "C" fn row_page_index_append(
     ensures answer { λ _. ⌜ now (answer .exit) ≡ fill (now (answer .entry)) 0 (answerWords (served (onWords (now (words .entry))) (append count page) .answer)) ⌝ }
     ensures number { λ r. ⌜ r ≡ getD (answerWords (served (onWords (now (words .entry))) (append count page) .answer)) 0 0 ⌝ }
 {
-    let n = answers::inserted_numbers(insert::insert_row_page(words, count, PageID(page)));
+    let n = answers::inserted_numbers(call_append::insert_row_page(words, count, PageID(page)));
     answer_words::write(answer, n);
     n.number
 }
@@ -56,7 +56,7 @@ pub extern "C" fn row_page_index_find(words: &[u64], row: u64, answer: &mut [u64
     ensures answer { λ _. ⌜ now (answer .exit) ≡ fill (now (answer .entry)) 0 (answerWords (served (onWords (now (words .entry))) (find row) .answer)) ⌝ }
     ensures number { λ r. ⌜ r ≡ getD (answerWords (served (onWords (now (words .entry))) (find row) .answer)) 0 0 ⌝ }
 {
-    let n = answers_read::location_numbers(find::try_find_row(words, RowID(row)));
+    let n = answers_read::location_numbers(call_find::try_find_row(words, RowID(row)));
     answer_words::write(answer, n);
     n.number
 }
@@ -74,7 +74,7 @@ pub extern "C" fn row_page_index_prune(
     ensures answer { λ _. ⌜ now (answer .exit) ≡ fill (now (answer .entry)) 0 (answerWords (served (onWords (now (words .entry))) (prune start end (now (ids .entry))) .answer)) ⌝ }
     ensures number { λ r. ⌜ r ≡ getD (answerWords (served (onWords (now (words .entry))) (prune start end (now (ids .entry))) .answer)) 0 0 ⌝ }
 {
-    let n = answers::pruned_numbers(prune::prune_checkpoint_prefix(
+    let n = answers::pruned_numbers(call_prune::prune_checkpoint_prefix(
         words,
         RowID(start),
         RowID(end),
@@ -97,7 +97,7 @@ pub extern "C" fn row_page_index_destroy(
     ensures answer { λ _. ⌜ now (answer .exit) ≡ fill (now (answer .entry)) 0 (answerWords (served (onPages (now (words .entry)) (now (pages .entry))) (destroy pivot) .answer)) ⌝ }
     ensures number { λ r. ⌜ r ≡ getD (answerWords (served (onPages (now (words .entry)) (now (pages .entry))) (destroy pivot) .answer)) 0 0 ⌝ }
 {
-    let n = answers::destroyed_numbers(destroy::destroy(words, RowID(pivot), pages));
+    let n = answers::destroyed_numbers(call_release::destroy(words, RowID(pivot), pages));
     answer_words::write(answer, n);
     n.number
 }
@@ -109,7 +109,7 @@ pub extern "C" fn row_page_index_destroy_empty(words: &mut [u64], answer: &mut [
     ensures answer { λ _. ⌜ now (answer .exit) ≡ fill (now (answer .entry)) 0 (answerWords (served (onWords (now (words .entry))) destroyEmpty .answer)) ⌝ }
     ensures number { λ r. ⌜ r ≡ getD (answerWords (served (onWords (now (words .entry))) destroyEmpty .answer)) 0 0 ⌝ }
 {
-    let n = answers::destroyed_numbers(destroy_empty::destroy_empty(words));
+    let n = answers::destroyed_numbers(call_release_empty::destroy_empty(words));
     answer_words::write(answer, n);
     n.number
 }
@@ -120,7 +120,7 @@ pub extern "C" fn row_page_index_check(words: &[u64], answer: &mut [u64]) -> u64
     ensures answer { λ _. ⌜ now (answer .exit) ≡ fill (now (answer .entry)) 0 (answerWords (served (onWords (now (words .entry))) check .answer)) ⌝ }
     ensures number { λ r. ⌜ r ≡ getD (answerWords (served (onWords (now (words .entry))) check .answer)) 0 0 ⌝ }
 {
-    let n = answers_read::checked_numbers(full_check::full_check(words));
+    let n = answers_read::checked_numbers(call_check::full_check(words));
     answer_words::write(answer, n);
     n.number
 }
@@ -147,7 +147,7 @@ pub extern "C" fn row_page_index_next(
     ensures answer { λ _. ⌜ now (answer .exit) ≡ fill (now (answer .entry)) 0 (answerWords (served (onWalk (now (words .entry)) (now (cursor .entry)) (now (records .entry))) next .answer)) ⌝ }
     ensures number { λ r. ⌜ r ≡ getD (answerWords (served (onWalk (now (words .entry)) (now (cursor .entry)) (now (records .entry))) next .answer)) 0 0 ⌝ }
 {
-    let step = byvalue::next_words(words, host_cursor::cursor_in(&cursor[..]), records);
+    let step = next_words::next_words(words, host_cursor::cursor_in(&cursor[..]), records);
     let after = step.cursor;
     let given = step.answer;
     host_cursor::cursor_out(cursor, after, given);

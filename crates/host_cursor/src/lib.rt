@@ -6,7 +6,7 @@ ghost use Rattle.model.specs.Words.{pick};
 ghost use Rattle.model.specs.Refusals.{nextLeaf};
 ghost use Rattle.host_cursor.specs.Cursors.{cursorAfter, cursorIn};
 use answer_words;
-use byvalue;
+use next_words;
 use model::answer::NextLeaf;
 use model::cursor::RowPageIndexMemCursor;
 use model::id::RowID;
@@ -43,7 +43,7 @@ fn flag(b: bool) -> u64
 pub fn cursor_out(cursor: &mut [u64], c: RowPageIndexMemCursor, given: NextLeaf)
     ensures { λ _. ⌜ now (cursor .exit) ≡ cursorAfter (now (cursor .entry)) c (nextLeaf given) ⌝ }
 {
-    let moves = byvalue::gives_leaf(given);
+    let moves = next_words::gives_leaf(given);
     if !moves {
         return;
     }

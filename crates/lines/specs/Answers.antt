@@ -2,7 +2,7 @@
 use Prim.Native.Nat.{ℕ}
 use mathlib.Core.List.{List, [], _∷_, _++_}
 use Rattle.model.specs.Refusals.{Answer, result, refused}
-use Rattle.text.specs.Lines.{line}
+use Rattle.script_text.specs.Lines.{line}
 use Rattle.lines.specs.Names.{pageName, noneName, leafName, endName, noName}
 
 abbrev pub refusalLine : ℕ → ℕ → List ℕ

@@ -16,7 +16,7 @@ use Rattle.model.specs.Append.{chainSound, firsts}
 use Rattle.model.specs.declared.id.NodeNo.{NodeNo}
 use Rattle.model.proofs.Tests.{and-l, and-r, holds, is-true, by-test}
 use Rattle.node_chain.specs.Chain.{isLink, listed}
-use Rattle.pool.proofs.Turns.{turn, stop}
+use Rattle.node_write.proofs.Turns.{turn, stop}
 
 abbrev none : NodeNo
 none = record { 0 = 0 }

@@ -9,12 +9,12 @@ ghost use lib.ListN.{length, set};
 ghost use Rattle.model.specs.Words.{freeCount, freed};
 ghost use Rattle.model.specs.Reading.{occ};
 ghost use Rattle.model.specs.Append.{chainSound, firsts, past};
-ghost use Rattle.node.specs.Layout.{Fits, shapeOf};
+ghost use Rattle.node_read.specs.Layout.{Fits, shapeOf};
 ghost use Rattle.node_chain.specs.Chain.{isLink, listed};
 use model::id::NodeNo;
 use model::node::RowPageIndexNodeHeader;
-use node::layout::Layout;
-use pool::write;
+use node_read::layout::Layout;
+use node_write::write;
 
 // The head of the chain and the free count, as nodes are taken.
 pub fn set_chain(s: &mut [u64], head: NodeNo, free: u64)

@@ -4,11 +4,11 @@ ghost use mathlib.Core.Path.{_≡_};
 ghost use Prim.Native.Nat.{_+_, _≤_, _<_};
 ghost use Rattle.model.specs.Words.{copied, put};
 ghost use Rattle.model.specs.Prune.{moved};
-ghost use Rattle.node.specs.Layout.{Fits, shapeOf};
+ghost use Rattle.node_read.specs.Layout.{Fits, shapeOf};
 use model::id::NodeNo;
-use node::layout::Layout;
+use node_read::layout::Layout;
 use node_pairs;
-use pool::write;
+use node_write::write;
 
 // Node to becomes a copy of node from, all its words.
 pub fn copy_node(l: Layout, s: &mut [u64], from: NodeNo, to: NodeNo)

@@ -3,13 +3,13 @@
 ghost use mathlib.Core.Path.{_≡_};
 ghost use Prim.Native.Nat.{_+_, _<_};
 ghost use Rattle.model.specs.Words.{added, count, put};
-ghost use Rattle.node.specs.Layout.{Fits, shapeOf};
-ghost use Rattle.pool.specs.Write.{putEntry};
+ghost use Rattle.node_read.specs.Layout.{Fits, shapeOf};
+ghost use Rattle.node_write.specs.Write.{putEntry};
 use model::id::NodeNo;
 use model::id::PageID;
 use model::id::RowID;
-use node::layout::Layout;
-use pool::write;
+use node_read::layout::Layout;
+use node_write::write;
 
 // Pair i of node n.
 pub fn put_pair(l: Layout, s: &mut [u64], n: NodeNo, i: u64, row: RowID, x: u64)

@@ -5,11 +5,11 @@ ghost use Prim.Native.Nat.{ℕ, _+_, _≤_, _<_, min};
 ghost use lib.Dec.{T};
 ghost use Rattle.model.specs.Tree.{pairsFrom, rising};
 ghost use Rattle.model.specs.Reading.{lastNotAbove};
-ghost use Rattle.node.specs.Layout.{Fits, shapeOf};
+ghost use Rattle.node_read.specs.Layout.{Fits, shapeOf};
 ghost use Rattle.node_place.specs.Place.{LiesIn};
 use model::id::NodeNo;
 use model::id::RowID;
-use node::layout::Layout;
+use node_read::layout::Layout;
 
 // The end of a part of so many entries from low on.
 fn part_end(low: u64, width: u64, count: u64) -> u64

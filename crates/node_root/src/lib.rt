@@ -4,9 +4,9 @@ ghost use mathlib.Core.Path.{_≡_};
 ghost use mathlib.Core.Bool.{true};
 ghost use Prim.Native.Nat.{_-_, _<_};
 ghost use Rattle.model.specs.Tree.{emptyRoot, rootSound, sound};
-ghost use Rattle.node.specs.Layout.{Fits, shapeOf};
+ghost use Rattle.node_read.specs.Layout.{Fits, shapeOf};
 use model::id::NodeNo;
-use node::layout::Layout;
+use node_read::layout::Layout;
 use node_test;
 use node_test::Limit;
 

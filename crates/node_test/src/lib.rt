@@ -5,12 +5,12 @@ ghost use mathlib.Core.Bool.{true};
 ghost use Prim.Native.Nat.{ℕ, _+_, _-_, _≤_, _<_};
 ghost use Rattle.model.specs.Words.{row};
 ghost use Rattle.model.specs.Tree.{endSound, nodeAt, pairsFrom, rising, sound};
-ghost use Rattle.node.specs.Layout.{Fits, shapeOf};
+ghost use Rattle.node_read.specs.Layout.{Fits, shapeOf};
 ghost use Rattle.node_test.specs.Test.{firstOut, limitOf, nodeTest};
 use model::id::NodeNo;
 use model::id::RowID;
 use model::node::RowPageIndexNodeHeader;
-use node::layout::Layout;
+use node_read::layout::Layout;
 
 // The row of the next entry on a path, if there is one.
 pub enum Limit {

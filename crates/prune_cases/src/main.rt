@@ -14,8 +14,8 @@ use model::answer::RowLocation;
 use model::answer::RowPagePrefixPrune;
 use model::id::PageID;
 use model::id::RowID;
-use node::header;
-use node::header::Opened;
+use node_read::header;
+use node_read::header::Opened;
 
 // What was seen.
 struct Tally {
@@ -79,7 +79,7 @@ fn height(s: &[u64]) -> u64 {
 
 // The nodes of the tree; 0 where the store is not well-formed or does not hold so many entries.
 fn tree_nodes(s: &[u64], entries: u64) -> u64 {
-    match full_check::full_check(s) {
+    match call_check::full_check(s) {
         Checked::Refused(_) => 0,
         Checked::WellFormed {
             entries: held,
@@ -96,7 +96,7 @@ fn tree_nodes(s: &[u64], entries: u64) -> u64 {
 
 // 1 where row q is not found with this page.
 fn not_found(s: &[u64], q: u64, page: u64) -> u64 {
-    match find::try_find_row(s, RowID(q)) {
+    match call_find::try_find_row(s, RowID(q)) {
         RowLocation::RowPage(p) => {
             if p.0 == page {
                 return 0;
@@ -110,7 +110,7 @@ fn not_found(s: &[u64], q: u64, page: u64) -> u64 {
 
 // 1 where row q is found, or the lookup refused.
 fn found(s: &[u64], q: u64) -> u64 {
-    match find::try_find_row(s, RowID(q)) {
+    match call_find::try_find_row(s, RowID(q)) {
         RowLocation::RowPage(_) => 1,
         RowLocation::NotFound => 0,
         RowLocation::Refused(_) => 1,
@@ -139,7 +139,7 @@ fn grow(s: &mut [u64], from: u64, to: u64) -> u64 {
     let mut wrong: u64 = 0;
     let mut i = from;
     while i < to {
-        match insert::insert_row_page(s, rows(i), PageID(plus(1000, i))) {
+        match call_append::insert_row_page(s, rows(i), PageID(plus(1000, i))) {
             Inserted::Done(_) => {}
             Inserted::Refused(_) => {
                 wrong = plus(wrong, 1);
@@ -202,7 +202,7 @@ fn refuse(
     tally: Tally,
 ) -> Tally {
     let mut t = tally;
-    let answer = prune::prune_checkpoint_prefix(s, RowID(start), RowID(end), ids);
+    let answer = call_prune::prune_checkpoint_prefix(s, RowID(start), RowID(end), ids);
     let told = is_refused(answer, no, with);
     let kept = same(&s[..], before);
     if !told {
@@ -315,7 +315,7 @@ fn prune_pages(s: &mut [u64], l: Ledger, ids: &[u64], tally: Tally) -> Tally {
         from: plus(l.from, k),
         to: l.to,
     };
-    match prune::prune_checkpoint_prefix(s, RowID(begin(l.from)), RowID(begin(rest.from)), ids) {
+    match call_prune::prune_checkpoint_prefix(s, RowID(begin(l.from)), RowID(begin(rest.from)), ids) {
         Pruned::Refused(_) => {
             t.wrong = plus(t.wrong, 1);
             t
@@ -459,7 +459,7 @@ fn run(capacity: u64, nodes: u64, most: u64, tree: &mut [u64], base: &mut [u64],
         refused: 0,
         wrong: 0,
     };
-    match create::new(tree, capacity, nodes, RowID(0)) {
+    match call_create::new(tree, capacity, nodes, RowID(0)) {
         Created::Done => {}
         Created::Refused(_) => {
             t.wrong = 1;

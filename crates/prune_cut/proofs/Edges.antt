@@ -20,24 +20,24 @@ use Rattle.model.specs.declared.path.Position.{Position}
 use Rattle.model.specs.declared.path.Path.{Path}
 use Rattle.model.proofs.Sound.{sound-at}
 use Rattle.node_test.proofs.Rows.{facts}
-use Rattle.node.specs.Layout.{shapeOf}
-use Rattle.node.specs.declared.header.StoreHeader.{StoreHeader}
+use Rattle.node_read.specs.Layout.{shapeOf}
+use Rattle.node_read.specs.declared.header.StoreHeader.{StoreHeader}
 use Rattle.node_chain.specs.Chain.{listed}
 use Rattle.node_chain.proofs.Listed.{length-listed}
-use Rattle.walk.specs.Left.{left, Valid}
-use Rattle.reclaim.specs.Ready.{Ready}
-use Rattle.boundary.specs.Edge.{wentOf, trimsOn, Climbed}
-use Rattle.boundary.specs.Trims.{trimsOf, NoneBelow, Trims, Outside, Untouched}
-use Rattle.boundary.proofs.Joined.{root-high, depth-low, edge-spine, edge-top, edge-trims}
-use Rattle.boundary.proofs.Distinct.{edge-untouched, edge-right, edge-ends}
-use Rattle.boundary.proofs.Climbs.{node-in, edge-stays, edge-whole, edge-once, edge-few, edge-first}
-use Rattle.boundary.proofs.Settled.{settled-last, settled-none, settled-trims}
-use Rattle.edge.specs.declared.Boundary.{Boundary}
-use Rattle.trim.specs.Nodes.{AllIn}
-use Rattle.copies.specs.Copied.{copiesWith, copiesOf, SoundTop, Collapses}
-use Rattle.copies.specs.declared.Copies as Copied
-use Rattle.copies.specs.declared.CopyTest.{CopyTest}
-use Rattle.copies.specs.declared.CopyTest.the-variants.{Unsound, Sound}
+use Rattle.tree_turn.specs.Left.{left, Valid}
+use Rattle.tree_free.specs.Ready.{Ready}
+use Rattle.prune_boundary.specs.Edge.{wentOf, trimsOn, Climbed}
+use Rattle.prune_boundary.specs.Trims.{trimsOf, NoneBelow, Trims, Outside, Untouched}
+use Rattle.prune_boundary.proofs.Joined.{root-high, depth-low, edge-spine, edge-top, edge-trims}
+use Rattle.prune_boundary.proofs.Distinct.{edge-untouched, edge-right, edge-ends}
+use Rattle.prune_boundary.proofs.Climbs.{node-in, edge-stays, edge-whole, edge-once, edge-few, edge-first}
+use Rattle.prune_boundary.proofs.Settled.{settled-last, settled-none, settled-trims}
+use Rattle.prune_edge.specs.declared.Boundary.{Boundary}
+use Rattle.prune_write.specs.Nodes.{AllIn}
+use Rattle.prune_collapse.specs.Copied.{copiesWith, copiesOf, SoundTop, Collapses}
+use Rattle.prune_collapse.specs.declared.Copies as Copied
+use Rattle.prune_collapse.specs.declared.CopyTest.{CopyTest}
+use Rattle.prune_collapse.specs.declared.CopyTest.the-variants.{Unsound, Sound}
 use Rattle.prune_cut.specs.Found.{RootedIn, EdgedIn, AllGo, SomeStay, resetTo, cutTo, resetIn, cutIn}
 use Rattle.prune_cut.specs.Writable.{Resettable, Writable}
 use Rattle.prune_cut.proofs.Outside.{copies-outside}

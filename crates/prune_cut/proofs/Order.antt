@@ -11,8 +11,8 @@ use Rattle.model.specs.Prune.{moved, trimmed, trimAll, copyAll}
 use Rattle.model.proofs.Words.{put-word, put-comm, set-put}
 use Rattle.model.proofs.Frame.{Same}
 use Rattle.model.proofs.Writes.{freed-keeps, not-first, not-rest}
-use Rattle.boundary.specs.Trims.{Trims, Outside, Untouched}
-use Rattle.trim.proofs.Turns.{trims-next}
+use Rattle.prune_boundary.specs.Trims.{Trims, Outside, Untouched}
+use Rattle.prune_write.proofs.Turns.{trims-next}
 
 free-append : (C : Shape) (w : List ℕ) (a b : List ℕ) → freeAll C w (a ++ b) ≡ freeAll C (freeAll C w a) b
 unfolding freeAll

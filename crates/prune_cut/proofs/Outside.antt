@@ -13,8 +13,8 @@ use Rattle.model.specs.Cut.{trims, kept}
 use Rattle.model.specs.Prune.{Copies, unsound, copies, before, copiesFrom}
 use Rattle.model.proofs.Tests.{by-test, holds}
 use Rattle.model.proofs.Sound.{soundly, sound-at}
-use Rattle.copies.proofs.Copying.{first-pair, others, trims-child, many, at-leaf, one}
-use Rattle.boundary.specs.Trims.{Outside, Untouched}
+use Rattle.prune_collapse.proofs.Copying.{first-pair, others, trims-child, many, at-leaf, one}
+use Rattle.prune_boundary.specs.Trims.{Outside, Untouched}
 
 -- what is found before a list
 copies-are : (a b : List ℕ) → copies a ≡ copies b → a ≡ b

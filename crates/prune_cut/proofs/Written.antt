@@ -8,16 +8,16 @@ use Rattle.model.specs.Words.{Shape, freeCount, part, count, freeAll, copied, H
 use Rattle.model.specs.Prune.{trimmed, trimAll, copyAll}
 use Rattle.model.proofs.Words.{header-at}
 use Rattle.model.proofs.Writes.{free-all-keeps, free-all-length, copied-length}
-use Rattle.boundary.specs.Trims.{Trims, Untouched}
-use Rattle.trim.proofs.Turns.{trims-next}
+use Rattle.prune_boundary.specs.Trims.{Trims, Untouched}
+use Rattle.prune_write.proofs.Turns.{trims-next}
 use Rattle.model.proofs.Writes.{free-all-count}
-use Rattle.cut.proofs.Trim.{trims-word}
-use Rattle.cut.proofs.Copy.{copies-word}
+use Rattle.law_prune.proofs.Trim.{trims-word}
+use Rattle.law_prune.proofs.Copy.{copies-word}
 use Rattle.node_chain.specs.Chain.{listed}
 use Rattle.model.specs.declared.id.NodeNo.{NodeNo}
 use Rattle.model.specs.declared.path.Path.{Path}
-use Rattle.boundary.specs.Edge.{wentOf}
-use Rattle.boundary.specs.Trims.{trimsOf}
+use Rattle.prune_boundary.specs.Edge.{wentOf}
+use Rattle.prune_boundary.specs.Trims.{trimsOf}
 use Rattle.prune_cut.specs.Writable.{Writable}
 use Rattle.prune_cut.proofs.Order.{freed-first}
 

@@ -12,11 +12,11 @@ use Rattle.model.specs.Refusals.{Answer, result, refused, damaged, Outcome}
 use Rattle.model.specs.Prune.{Copies, unsound, copies, trimAll, copyAll, copiesFrom, rootCopies, pruneWith, pruneRoot, Scan, pruneScanned}
 use Rattle.model.specs.Paths.{lastOf}
 use Rattle.model.specs.declared.path.Path.{Path}
-use Rattle.node.specs.Layout.{shapeOf}
-use Rattle.node.specs.declared.header.StoreHeader.{StoreHeader}
-use Rattle.boundary.specs.Edge.{wentOf, Edged}
-use Rattle.boundary.specs.Trims.{trimsOf}
-use Rattle.edge.specs.declared.Boundary.{Boundary}
+use Rattle.node_read.specs.Layout.{shapeOf}
+use Rattle.node_read.specs.declared.header.StoreHeader.{StoreHeader}
+use Rattle.prune_boundary.specs.Edge.{wentOf, Edged}
+use Rattle.prune_boundary.specs.Trims.{trimsOf}
+use Rattle.prune_edge.specs.declared.Boundary.{Boundary}
 
 -- an open store with root n, of which f nodes are free
 pub record InStore (C : Shape) (P : ℕ) (w : List ℕ) (n f : ℕ) : Type 0 where

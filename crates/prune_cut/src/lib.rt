@@ -3,26 +3,26 @@
 ghost use mathlib.Core.Path.{_≡_};
 ghost use Prim.Native.Nat.{_+_, _-_, _<_};
 ghost use Rattle.model.specs.Refusals.{pruned};
-ghost use Rattle.node.specs.Layout.{shapeOf};
+ghost use Rattle.node_read.specs.Layout.{shapeOf};
 ghost use Rattle.node_chain.specs.Chain.{listed};
-ghost use Rattle.boundary.specs.Trims.{trimsOf};
+ghost use Rattle.prune_boundary.specs.Trims.{trimsOf};
 ghost use Rattle.prune_cut.specs.Found.{AllGo, EdgedIn, RootedIn, SomeStay, cutAtIn, cutIn, resetIn};
 ghost use Rattle.prune_cut.specs.Writable.{Resettable, Writable, cutWords, resetWords};
-use copies;
-use copies::CopyTest;
-use edge::Boundary;
+use prune_collapse;
+use prune_collapse::CopyTest;
+use prune_edge::Boundary;
 use model::answer::Pruned;
 use model::answer::Refusal;
 use model::answer::RowPagePrefixPrune;
 use model::id::NodeNo;
 use model::id::RowID;
 use model::path::Path;
-use node::header;
-use node::header::StoreHeader;
-use node::layout::Layout;
-use pool::write;
-use reclaim;
-use trim;
+use node_read::header;
+use node_read::header::StoreHeader;
+use node_read::layout::Layout;
+use node_write::write;
+use tree_free;
+use prune_write;
 
 // What goes is freed first, j nodes: the numbers of the children that go are lost when their node is trimmed. No freed node
 // is trimmed, copied or the root, so the words are those of 01's order.
@@ -39,10 +39,10 @@ fn write_edge(
     requires { ⌜ Writable (shapeOf l) (l .pool) (now s) (root .0) edge j nodes k ⌝ }
     ensures { λ _. ⌜ now (s .exit) ≡ cutWords (shapeOf l) (now (s .entry)) (root .0) (end .0) (trimsOf edge) (listed nodes 0 k) ⌝ }
 {
-    reclaim::free_first(l, s, root, j);
-    trim::trim_all(l, s, edge, end);
-    trim::copy_all(l, s, root, nodes, k);
-    trim::free_copied(l, s, nodes, k);
+    tree_free::free_first(l, s, root, j);
+    prune_write::trim_all(l, s, edge, end);
+    prune_write::copy_all(l, s, root, nodes, k);
+    prune_write::free_copied(l, s, nodes, k);
 }
 
 // Nothing is left: all below the root is freed, and the root is an empty leaf from the end on.
@@ -50,7 +50,7 @@ fn write_reset(l: Layout, s: &mut [u64], root: NodeNo, end: RowID, edge: Path, j
     requires { ⌜ Resettable (shapeOf l) (l .pool) (now s) (root .0) edge j ⌝ }
     ensures { λ _. ⌜ now (s .exit) ≡ resetWords (shapeOf l) (now (s .entry)) (root .0) (end .0) (trimsOf edge) ⌝ }
 {
-    reclaim::free_first(l, s, root, j);
+    tree_free::free_first(l, s, root, j);
     write::empty_node(l, s, root, end);
 }
 
@@ -83,7 +83,7 @@ fn prune_some(h: StoreHeader, s: &mut [u64], end: RowID, k: u64, b: Boundary) ->
     let l = h.layout;
     let root = h.root;
     let edge = b.edge;
-    let copied = copies::find_copies(l, &s[..], root, edge);
+    let copied = prune_collapse::find_copies(l, &s[..], root, edge);
     let tested = copied.answer;
     match tested {
         CopyTest::Unsound(n) => {

@@ -12,10 +12,10 @@ use Rattle.model.specs.WellFormed.{SoundRoot, emptyTree, soundTree}
 use Rattle.model.proofs.Tests.{is-true}
 use Rattle.model.proofs.Sound.{sound-at}
 use Rattle.model.proofs.Once.{own}
-use Rattle.formed.proofs.Rooted.{empty-entries}
-use Rattle.formed.proofs.Tally.{lower, sound-visits, leaf-visits, tree-visits, blank-visits}
-use Rattle.walk.specs.Left.{bound, rest}
-use Rattle.walk.proofs.Rest.{rest-end, child-good}
+use Rattle.law_formed.proofs.Rooted.{empty-entries}
+use Rattle.law_formed.proofs.Tally.{lower, sound-visits, leaf-visits, tree-visits, blank-visits}
+use Rattle.tree_turn.specs.Left.{bound, rest}
+use Rattle.tree_turn.proofs.Rest.{rest-end, child-good}
 use Rattle.release_pages.specs.Pages.{pagesFrom, pagesAt, pagesOf}
 use Rattle.release_pages.proofs.Filling.{leaf-pages, branch-pages}
 

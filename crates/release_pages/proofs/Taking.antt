@@ -10,14 +10,14 @@ use Rattle.model.specs.Reading.{Visit, Entry, pageIds, rootEntries}
 use Rattle.model.specs.Paths.{stack, lastOf, entered, rooted}
 use Rattle.model.specs.declared.path.Path.{Path}
 use Rattle.model.proofs.Fill.{fill-append, length-fill}
-use Rattle.walk.specs.Left.{lowest, left, ValidPath}
-use Rattle.walk.specs.declared.turn.Step.the-variants.{Up, Down}
-use Rattle.walk.specs.Turn.{stepping}
-use Rattle.walk.proofs.Valid.{valid-path}
-use Rattle.walk.proofs.Rest.{left-none}
-use Rattle.walk.proofs.InPlace.{rooted-left, popped, enteredPath}
-use Rattle.walk.proofs.Turns.{Known, sure, falls, step-up, known-up, step-down, known-down}
-use Rattle.reclaim.proofs.Root.{begin}
+use Rattle.tree_turn.specs.Left.{lowest, left, ValidPath}
+use Rattle.tree_turn.specs.declared.turn.Step.the-variants.{Up, Down}
+use Rattle.tree_turn.specs.Turn.{stepping}
+use Rattle.tree_turn.proofs.Valid.{valid-path}
+use Rattle.tree_turn.proofs.Rest.{left-none}
+use Rattle.tree_turn.proofs.InPlace.{rooted-left, popped, enteredPath}
+use Rattle.tree_turn.proofs.Turns.{Known, sure, falls, step-up, known-up, step-down, known-down}
+use Rattle.tree_free.proofs.Root.{begin}
 use Rattle.release_pages.specs.Pages.{pagesAt, pagesOf}
 use Rattle.release_pages.specs.Releasable.{Releasable}
 use Rattle.release_pages.proofs.Found.{rest-pages}

@@ -5,16 +5,16 @@ ghost use Prim.Native.Nat.{_+_, _-_, _≤_, _<_};
 ghost use lib.ListN.{length};
 ghost use Rattle.model.specs.Words.{count, fill};
 ghost use Rattle.model.specs.Reading.{pageIds, rootEntries};
-ghost use Rattle.node.specs.Layout.{Fits, shapeOf};
+ghost use Rattle.node_read.specs.Layout.{Fits, shapeOf};
 ghost use Rattle.release_pages.specs.Pages.{pagesAt};
 ghost use Rattle.release_pages.specs.Releasable.{Releasable};
 use model::id::NodeNo;
 use model::path::Path;
 use model::path::Position;
-use node::header;
-use node::layout::Layout;
-use walk::turn;
-use walk::turn::Step;
+use node_read::header;
+use node_read::layout::Layout;
+use tree_turn::turn;
+use tree_turn::turn::Step;
 
 // The page ids of a leaf go into the list from place at on; the place after them. A branch has none.
 fn copy_leaf(l: Layout, s: &[u64], n: NodeNo, pages: &mut [u64], at: usize) -> usize

@@ -9,9 +9,9 @@ use lib.Dec.{leb, leb→le}
 use borrow.Author.Tests.{leb-false}
 use Rattle.model.specs.Words.{fill}
 use Rattle.model.proofs.Tests.{by-test, holds}
-use Rattle.text.specs.Lines.{capped, Puts}
+use Rattle.script_text.specs.Lines.{capped, Puts}
 use Rattle.model.proofs.Fill.{fill-append, fill-is}
-use Rattle.text.proofs.Putting.{fill-out}
+use Rattle.script_text.proofs.Putting.{fill-out}
 
 short : (l xs : List ℕ) → length xs ≤ length l → fill l 0 xs ≡ take (length l) xs ++ drop (length xs) l
 short l xs h = fill-is l xs h ∙ ap (λ (ys : List ℕ). ys ++ drop (length xs) l) (sym (take-all (length l) xs h))

@@ -5,9 +5,9 @@ ghost use mathlib.Core.Bool.{true};
 ghost use mathlib.Core.List.{_++_};
 ghost use Prim.Native.Nat.{_+_, _≤_};
 ghost use lib.ListN.{drop, length, take};
-ghost use Rattle.text.specs.Lines.{Puts, capped};
-ghost use Rattle.records.specs.Records.{bodyLength, whole};
-ghost use Rattle.calls.specs.Steps.{memory};
+ghost use Rattle.script_text.specs.Lines.{Puts, capped};
+ghost use Rattle.script_records.specs.Records.{bodyLength, whole};
+ghost use Rattle.script_calls.specs.Steps.{memory};
 ghost use Rattle.script_step.specs.Script.{listing, listingFrom};
 use script_step;
 
@@ -16,7 +16,7 @@ fn record_length(bytes: &[u8]) -> usize
     requires { ⌜ whole (now bytes) ≡ true ⌝ }
     ensures { λ r. ⌜ r ≡ 4 + bodyLength (now (bytes .entry)) ⌝ }
 {
-    4 + records::read_u32(bytes, 0) as usize
+    4 + script_records::read_u32(bytes, 0) as usize
 }
 
 // A whole script, on these words.

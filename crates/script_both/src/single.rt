@@ -31,7 +31,7 @@ fn list_on(script: &[u8], words: &mut [u64], lines: &mut [u8], out: &mut [u8]) -
         let end = record_end(script, at);
         let t = script_turn::turn_step(words, used, &script[at..end], lines);
         let len = t.at;
-        place = text::put_bytes(out, place, &lines[0..len]);
+        place = script_text::put_bytes(out, place, &lines[0..len]);
         if !t.goes {
             return place;
         }

@@ -3,13 +3,13 @@
 ghost use mathlib.Core.Path.{_≡_};
 ghost use lib.ListN.{length};
 ghost use Rattle.model.specs.Refusals.{created};
-ghost use Rattle.records.specs.Records as R;
-ghost use Rattle.calls.specs.Calls.{createLength, ifAccepted, perform};
-ghost use Rattle.calls.specs.Steps.{Does, memory};
-use calls::Progress;
+ghost use Rattle.script_records.specs.Records as R;
+ghost use Rattle.script_calls.specs.Calls.{createLength, ifAccepted, perform};
+ghost use Rattle.script_calls.specs.Steps.{Does, memory};
+use script_calls::Progress;
 use model::answer::Created;
 use model::id::RowID;
-use node::layout::Layout;
+use node_read::layout::Layout;
 
 // The words that a create gets, of so many.
 pub fn create_length(all: usize, capacity: u64, nodes: u64) -> usize
@@ -52,7 +52,7 @@ pub fn create_step(
     ensures { λ r. ⌜ Does (perform (memory (now (s .entry)) used) (R.Create capacity nodes start)) (now (out .entry)) at (now (s .exit)) (now (out .exit)) r ⌝ }
 {
     let len = create_length(s.len(), capacity, nodes);
-    let a = create::new(&mut s[..len], capacity, nodes, RowID(start));
+    let a = call_create::new(&mut s[..len], capacity, nodes, RowID(start));
     let place = lines::put_created(out, at, a);
     Progress {
         used: used_after(a, len, used),

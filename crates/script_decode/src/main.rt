@@ -5,37 +5,37 @@ ghost use Prim.Native.Nat.{_≤_};
 ghost use lib.ListN.{length};
 use libc::STDERR_FILENO;
 use libc::STDOUT_FILENO;
-use records::Head;
-use records::Record;
+use script_records::Head;
+use script_records::Record;
 use script_input::name;
 
 // A line with one, two, three numbers after the name of this kind: the place after it.
 fn put_call1(out: &mut [u8], kind: u64, a: u64) -> usize {
     let named = name::put_name(out, 0, kind);
-    let place = text::put_number(out, named, a);
-    text::put_byte(out, place, b'\n')
+    let place = script_text::put_number(out, named, a);
+    script_text::put_byte(out, place, b'\n')
 }
 
 fn put_call2(out: &mut [u8], kind: u64, a: u64, b: u64) -> usize {
     let named = name::put_name(out, 0, kind);
-    let first = text::put_number(out, named, a);
-    let place = text::put_number(out, first, b);
-    text::put_byte(out, place, b'\n')
+    let first = script_text::put_number(out, named, a);
+    let place = script_text::put_number(out, first, b);
+    script_text::put_byte(out, place, b'\n')
 }
 
 fn put_call3(out: &mut [u8], kind: u64, a: u64, b: u64, c: u64) -> usize {
     let named = name::put_name(out, 0, kind);
-    let first = text::put_number(out, named, a);
-    let second = text::put_number(out, first, b);
-    let place = text::put_number(out, second, c);
-    text::put_byte(out, place, b'\n')
+    let first = script_text::put_number(out, named, a);
+    let second = script_text::put_number(out, first, b);
+    let place = script_text::put_number(out, second, c);
+    script_text::put_byte(out, place, b'\n')
 }
 
 fn put_numbers(out: &mut [u8], at: usize, numbers: &[u64]) -> usize {
     let mut place = at;
     let mut i: usize = 0;
     while i < numbers.len() {
-        place = text::put_number(out, place, numbers[i]);
+        place = script_text::put_number(out, place, numbers[i]);
         i += 1;
     }
     place
@@ -46,12 +46,12 @@ fn put_prune(out: &mut [u8], start: u64, end: u64, body: &[u8]) -> usize
     requires { ⌜ length (now body) ≤ 4096 ⌝ }
 {
     let mut ids = [0u64; 512];
-    let k = records::copy_ids(body, &mut ids);
+    let k = script_records::copy_ids(body, &mut ids);
     let named = name::put_name(out, 0, 4);
-    let first = text::put_number(out, named, start);
-    let second = text::put_number(out, first, end);
+    let first = script_text::put_number(out, named, start);
+    let second = script_text::put_number(out, first, end);
     let place = put_numbers(out, second, &ids[0..k]);
-    text::put_byte(out, place, b'\n')
+    script_text::put_byte(out, place, b'\n')
 }
 
 // The line of what a record asks for: its length, 0 for a bad record.
@@ -71,12 +71,12 @@ fn put_call(out: &mut [u8], asked: Record, body: &[u8]) -> usize
 
 // The line of the record that these bytes are.
 fn put_record(out: &mut [u8], bytes: &[u8]) -> usize {
-    match records::read_head(bytes) {
+    match script_records::read_head(bytes) {
         Head::Bad => 0,
         Head::Whole(len) => {
             let end = 4 + len;
             let body = &bytes[4..end];
-            let asked = records::read_body(body);
+            let asked = script_records::read_body(body);
             put_call(out, asked, body)
         }
     }

@@ -49,7 +49,7 @@ fn put_bytes(b: &mut [u8], at: usize, many: usize, x: u64) -> usize {
     let mut rest = x;
     let mut i: usize = 0;
     while i < many {
-        place = text::put_byte(b, place, (rest % 256) as u8);
+        place = script_text::put_byte(b, place, (rest % 256) as u8);
         rest = rest / 256;
         i += 1;
     }

@@ -12,10 +12,10 @@ use Rattle.model.specs.Refusals.{headerOk}
 use Rattle.model.specs.Release.{firstLow, releasedWords, destroy}
 use Rattle.model.specs.Tree.{pairsFrom, rising, firstRow, lastRow, meets, endSound, sound, emptyRoot, rootSound, level, next, last, overPairs}
 use Rattle.model.specs.Words.{stands, wordPlace, part, put, emptied, added, copyFrom, copied, freed, freeAll, fill}
-use Rattle.text.specs.Lines.{digitsOf, decimal, numbers, line}
-use Rattle.records.specs.Records.{little, wordsIn, callOf, asked, whole, first}
+use Rattle.script_text.specs.Lines.{digitsOf, decimal, numbers, line}
+use Rattle.script_records.specs.Records.{little, wordsIn, callOf, asked, whole, first}
 use Rattle.lines.specs.Answers.{answerLine, findLine, leafLines}
-use Rattle.calls.specs.Calls.{walkLines, createLength, ifAccepted, perform}
+use Rattle.script_calls.specs.Calls.{walkLines, createLength, ifAccepted, perform}
 use Rattle.script_step.specs.Script.{listingFrom, listingOf, listing}
 use Rattle.script_example.specs.Example.{bytes, wordBytes, Case, cases}
 

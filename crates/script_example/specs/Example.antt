@@ -3,7 +3,7 @@ use Prim.Native.Nat.{ℕ, zero, suc, _+_, _*_, _-_, _/_, _%_, _^_}
 use mathlib.Core.List.{List, [], _∷_, _++_, map}
 use lib.ListN.{length}
 use Rattle.model.specs.Words.{NONE}
-use Rattle.text.specs.Lines.{line}
+use Rattle.script_text.specs.Lines.{line}
 use Rattle.lines.specs.Names.{createName, appendName, pageName, noneName, pruneName, leafName, endName, releaseName, noName, freeName, badRecordName}
 
 -- k bytes of n, little-endian

@@ -7,8 +7,8 @@ use borrow.Author.Tests.{ne-eqb}
 use lib.ListN.{length}
 use lib.Dec.{eqb}
 use Rattle.model.specs.Words.{pick}
-use Rattle.text.specs.Lines.{Puts}
-use Rattle.text.proofs.Putting.{nothing}
+use Rattle.script_text.specs.Lines.{Puts}
+use Rattle.script_text.proofs.Putting.{nothing}
 use Rattle.script_input.specs.Names.{nameOf}
 
 -- what put_name promises of a name's bytes

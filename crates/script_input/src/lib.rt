@@ -7,7 +7,7 @@ ghost use Prim.Native.Nat.{_≤_};
 ghost use lib.Dec.{ltb};
 ghost use lib.ListN.{length};
 ghost use Rattle.model.specs.Words.{pick};
-ghost use Rattle.records.specs.Records.{bodyLength};
+ghost use Rattle.script_records.specs.Records.{bodyLength};
 
 const STDIN_FILENO: i32 = 0;
 
@@ -18,7 +18,7 @@ pub fn announced(bytes: &[u8]) -> usize
     ensures is { λ r. ⌜ r ≡ pick (ltb 4096 (bodyLength (now (bytes .entry)))) 0 (bodyLength (now (bytes .entry))) ⌝ }
     ensures few { λ r. ⌜ r ≤ 4096 ⌝ }
 {
-    let len = records::read_u32(bytes, 0);
+    let len = script_records::read_u32(bytes, 0);
     if 4096 < len {
         return 0;
     }

@@ -2,11 +2,11 @@
 
 ghost use Prim.Native.Nat.{_≤_};
 ghost use lib.ListN.{drop, length};
-ghost use Rattle.records.specs.Records as R;
-ghost use Rattle.records.specs.Read.{bodyWords};
-ghost use Rattle.calls.specs.Calls.{perform};
-ghost use Rattle.calls.specs.Steps.{Does, memory};
-use calls::Progress;
+ghost use Rattle.script_records.specs.Records as R;
+ghost use Rattle.script_records.specs.Read.{bodyWords};
+ghost use Rattle.script_calls.specs.Calls.{perform};
+ghost use Rattle.script_calls.specs.Steps.{Does, memory};
+use script_calls::Progress;
 use model::id::RowID;
 
 // The page ids stand in the body.
@@ -23,8 +23,8 @@ pub fn prune_step(
     ensures { λ r. ⌜ Does (perform (memory (now (s .entry)) used) (R.Prune start end (drop 2 (bodyWords (now (body .entry)))))) (now (out .entry)) at (now (s .exit)) (now (out .exit)) r ⌝ }
 {
     let mut ids = [0u64; 512];
-    let k = records::copy_ids(body, &mut ids);
-    let a = prune::prune_checkpoint_prefix(&mut s[..used], RowID(start), RowID(end), &ids[..k]);
+    let k = script_records::copy_ids(body, &mut ids);
+    let a = call_prune::prune_checkpoint_prefix(&mut s[..used], RowID(start), RowID(end), &ids[..k]);
     let place = lines::put_pruned(out, at, a);
     Progress {
         used,

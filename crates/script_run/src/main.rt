@@ -3,7 +3,7 @@
 
 ghost use Prim.Native.Nat.{_≤_};
 ghost use lib.ListN.{length};
-use calls::Progress;
+use script_calls::Progress;
 use libc::STDOUT_FILENO;
 use script_turn;
 

@@ -6,10 +6,10 @@ use mathlib.Core.Bool.{true, false}
 use native.Mathlib.Omega.{arith}
 use lib.ListN.{length, take, drop, length-drop, length-take}
 use Rattle.model.specs.Words.{pick}
-use Rattle.records.specs.Records.{Call, Bad, bodyLength, whole, first, asked}
-use Rattle.records.specs.Read.{headOf}
-use Rattle.records.specs.declared.Head.the-variants as H
-use Rattle.records.proofs.Heads.{within, wholly, badly}
+use Rattle.script_records.specs.Records.{Call, Bad, bodyLength, whole, first, asked}
+use Rattle.script_records.specs.Read.{headOf}
+use Rattle.script_records.specs.declared.Head.the-variants as H
+use Rattle.script_records.proofs.Heads.{within, wholly, badly}
 
 pub first-bad : (bs : List ℕ) → H.Bad ≡ headOf bs → first bs ≡ Bad
 unfolding first

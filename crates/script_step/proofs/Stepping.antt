@@ -10,18 +10,18 @@ use Rattle.model.specs.Words.{pick, freeCount}
 use Rattle.model.specs.Refusals.{Answer, result, refused}
 use Rattle.model.specs.Create.{create}
 use Rattle.model.proofs.Tests.{by-test}
-use Rattle.text.specs.Lines.{Puts, line}
-use Rattle.text.proofs.Putting.{joins}
-use Rattle.records.specs.Records.{Call, Create, Append, Find, Prune, Walk, Release, Bad, bodyLength, whole, first, asked}
-use Rattle.records.specs.Read.{headOf}
-use Rattle.records.specs.declared.Head.the-variants as H
-use Rattle.records.proofs.Heads.{within, wholly, badly}
+use Rattle.script_text.specs.Lines.{Puts, line}
+use Rattle.script_text.proofs.Putting.{joins}
+use Rattle.script_records.specs.Records.{Call, Create, Append, Find, Prune, Walk, Release, Bad, bodyLength, whole, first, asked}
+use Rattle.script_records.specs.Read.{headOf}
+use Rattle.script_records.specs.declared.Head.the-variants as H
+use Rattle.script_records.proofs.Heads.{within, wholly, badly}
 use Rattle.lines.specs.Names.{freeName}
-use Rattle.calls.specs.Calls.{Memory, perform}
+use Rattle.script_calls.specs.Calls.{Memory, perform}
 use Rattle.script_walk.proofs.Short.{line-short, short}
 use Rattle.script_step.specs.Script.{listingFrom, listingOf, turn}
-use Rattle.calls.specs.Steps.{memory, Does}
-use Rattle.calls.specs.declared.Progress.{Progress}
+use Rattle.script_calls.specs.Steps.{memory, Does}
+use Rattle.script_calls.specs.declared.Progress.{Progress}
 
 pub goes-whole : (m : Memory) (bs : List ℕ) → perform m (first bs) .goes ≡ true → whole bs ≡ true
 unfolding first perform

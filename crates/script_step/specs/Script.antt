@@ -4,10 +4,10 @@ use mathlib.Core.List.{List, [], _∷_, _++_}
 use mathlib.Core.Bool.{Bool, true, false}
 use lib.ListN.{length, drop}
 use Rattle.model.specs.Words.{pick, freeCount}
-use Rattle.text.specs.Lines.{line}
-use Rattle.records.specs.Records.{bodyLength, first}
+use Rattle.script_text.specs.Lines.{line}
+use Rattle.script_records.specs.Records.{bodyLength, first}
 use Rattle.lines.specs.Names.{freeName}
-use Rattle.calls.specs.Calls.{Memory, zeros, Performed, perform}
+use Rattle.script_calls.specs.Calls.{Memory, zeros, Performed, perform}
 
 -- "last `free` and word 4"
 abbrev pub freeLine : Memory → List ℕ

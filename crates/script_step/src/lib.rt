@@ -4,15 +4,15 @@ ghost use mathlib.Core.List.{[], _∷_};
 ghost use Prim.Native.Nat.{_+_, _≤_};
 ghost use lib.ListN.{length};
 ghost use Rattle.model.specs.Words.{freeCount};
-ghost use Rattle.text.specs.Lines.{Puts, line};
+ghost use Rattle.script_text.specs.Lines.{Puts, line};
 ghost use Rattle.lines.specs.Names.{freeName};
-ghost use Rattle.records.specs.Records.{first};
-ghost use Rattle.records.specs.Read.{meant};
-ghost use Rattle.calls.specs.Calls.{perform};
-ghost use Rattle.calls.specs.Steps.{Does, memory};
-use calls::Progress;
-use records::Head;
-use records::Record;
+ghost use Rattle.script_records.specs.Records.{first};
+ghost use Rattle.script_records.specs.Read.{meant};
+ghost use Rattle.script_calls.specs.Calls.{perform};
+ghost use Rattle.script_calls.specs.Steps.{Does, memory};
+use script_calls::Progress;
+use script_records::Head;
+use script_records::Record;
 use script_create;
 use script_prune;
 use script_walk;
@@ -33,12 +33,12 @@ fn perform_record(
         Record::Create(capacity, nodes, start) => {
             script_create::create_step(s, used, capacity, nodes, start, out, at)
         }
-        Record::Append(count, page) => calls::append_step(s, used, count, page, out, at),
-        Record::Find(row) => calls::find_step(&s[..], used, row, out, at),
+        Record::Append(count, page) => script_calls::append_step(s, used, count, page, out, at),
+        Record::Find(row) => script_calls::find_step(&s[..], used, row, out, at),
         Record::Prune(start, end) => script_prune::prune_step(s, used, start, end, body, out, at),
         Record::Walk(row) => script_walk::walk_step(&s[..], used, row, out, at),
-        Record::Release(pivot) => calls::release_step(s, used, pivot, out, at),
-        Record::Bad => calls::bad_step(used, out, at),
+        Record::Release(pivot) => script_calls::release_step(s, used, pivot, out, at),
+        Record::Bad => script_calls::bad_step(used, out, at),
     }
 }
 
@@ -47,12 +47,12 @@ pub fn step(s: &mut [u64], used: usize, bytes: &[u8], out: &mut [u8], at: usize)
     requires { ⌜ used ≤ length (now s) ⌝ }
     ensures { λ r. ⌜ Does (perform (memory (now (s .entry)) used) (first (now (bytes .entry)))) (now (out .entry)) at (now (s .exit)) (now (out .exit)) r ⌝ }
 {
-    match records::read_head(bytes) {
-        Head::Bad => calls::bad_step(used, out, at),
+    match script_records::read_head(bytes) {
+        Head::Bad => script_calls::bad_step(used, out, at),
         Head::Whole(len) => {
             let end = 4 + len;
             let body = &bytes[4..end];
-            let asked = records::read_body(body);
+            let asked = script_records::read_body(body);
             perform_record(s, used, asked, body, out, at)
         }
     }
@@ -63,5 +63,5 @@ pub fn free_step(s: &[u64], out: &mut [u8], at: usize) -> usize
     requires { ⌜ 5 ≤ length (now s) ⌝ }
     ensures { λ r. ⌜ Puts (now (out .entry)) at (line freeName (freeCount (now (s .entry)) ∷ [])) (now (out .exit)) r ⌝ }
 {
-    text::put_line1(out, at, b"free", s[4])
+    script_text::put_line1(out, at, b"free", s[4])
 }

@@ -2,9 +2,9 @@
 
 ghost use Prim.Native.Nat.{_≤_};
 ghost use lib.ListN.{length};
-ghost use Rattle.calls.specs.Steps.{Does, memory};
+ghost use Rattle.script_calls.specs.Steps.{Does, memory};
 ghost use Rattle.script_step.specs.Script.{turn};
-use calls::Progress;
+use script_calls::Progress;
 use script_step;
 
 // A turn of a program that takes the records one by one: the next record's lines, or the last line where no bytes are left.

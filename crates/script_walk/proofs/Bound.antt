@@ -19,9 +19,9 @@ use Rattle.model.proofs.Sound.{sound-ends, meets-is}
 use Rattle.model.proofs.Words.{nodes-few}
 use Rattle.model.proofs.Header.{header-of}
 use Rattle.model.proofs.Tests.{by-test, holds}
-use Rattle.text.specs.Lines.{Puts}
+use Rattle.script_text.specs.Lines.{Puts}
 use Rattle.lines.specs.Answers.{leafLines}
-use Rattle.calls.specs.Calls.{lentRecords, walkLines}
+use Rattle.script_calls.specs.Calls.{lentRecords, walkLines}
 use Rattle.script_walk.specs.Walked.{Walks}
 use Rattle.script_walk.specs.declared.WalkStep.{WalkStep}
 use Rattle.script_walk.proofs.Walking.{leaf-last, walks-on, walks-out}

@@ -23,11 +23,11 @@ use Rattle.model.specs.declared.cursor.RowPageIndexMemCursor.{RowPageIndexMemCu
 use Rattle.model.proofs.Tests.{by-test}
 use Rattle.model.proofs.Words.{nodes-few}
 use Rattle.model.proofs.Header.{header-of}
-use Rattle.text.specs.Lines.{digitsOf, decimal, numbers, line, digit}
-use Rattle.records.specs.Records.{Call, Create, Append, Find, Prune, Walk, Release, Bad}
+use Rattle.script_text.specs.Lines.{digitsOf, decimal, numbers, line, digit}
+use Rattle.script_records.specs.Records.{Call, Create, Append, Find, Prune, Walk, Release, Bad}
 use Rattle.lines.specs.Names.{createName, appendName, pageName, noneName, pruneName, leafName, endName, releaseName, noName, badRecordName}
 use Rattle.lines.specs.Answers.{answerLine, findLine, leafLines}
-use Rattle.calls.specs.Calls.{lentRecords, lentPages, walkLines, Memory, createLength, perform}
+use Rattle.script_calls.specs.Calls.{lentRecords, lentPages, walkLines, Memory, createLength, perform}
 use Rattle.script_walk.proofs.Walking.{leaf-last}
 use Rattle.script_walk.proofs.Bound.{left, left-some, above-few, falls}
 

@@ -9,12 +9,12 @@ use Rattle.model.specs.Words.{lent}
 use Rattle.model.specs.Refusals.{Answer, result, refused, nextLeaf}
 use Rattle.model.specs.LeafWalk.{pageEntry, nextLeafOf, givesLeaf}
 use Rattle.model.specs.declared.cursor.RowPageIndexMemCursor.{RowPageIndexMemCursor}
-use Rattle.byvalue.specs.Written.{WordSteps}
-use Rattle.byvalue.specs.declared.WordStep.{WordStep}
-use Rattle.text.specs.Lines.{Puts}
-use Rattle.text.proofs.Putting.{joins, nothing}
+use Rattle.next_words.specs.Written.{WordSteps}
+use Rattle.next_words.specs.declared.WordStep.{WordStep}
+use Rattle.script_text.specs.Lines.{Puts}
+use Rattle.script_text.proofs.Putting.{joins, nothing}
 use Rattle.lines.specs.Answers.{leafLines}
-use Rattle.calls.specs.Calls.{lentRecords, walkLines}
+use Rattle.script_calls.specs.Calls.{lentRecords, walkLines}
 use Rattle.script_walk.specs.Walked.{Walks}
 use Rattle.script_walk.specs.declared.WalkStep.{WalkStep}
 

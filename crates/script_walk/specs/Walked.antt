@@ -3,10 +3,10 @@ use Prim.Native.Nat.{ℕ, _+_}
 use mathlib.Core.List.{List, []}
 use mathlib.Core.Path.{_≡_}
 use Rattle.model.specs.LeafWalk.{Stepped, givesLeaf}
-use Rattle.text.specs.Lines.{Puts}
+use Rattle.script_text.specs.Lines.{Puts}
 use Rattle.lines.specs.Answers.{leafLines}
-use Rattle.calls.specs.Calls.{Memory, Performed}
-use Rattle.calls.specs.declared.Progress.{Progress}
+use Rattle.script_calls.specs.Calls.{Memory, Performed}
+use Rattle.script_calls.specs.declared.Progress.{Progress}
 use Rattle.script_walk.specs.declared.WalkStep.{WalkStep}
 
 -- what a step of a walk does: it goes on where a leaf was given

@@ -5,12 +5,12 @@ ghost use Prim.Native.Nat.{_+_, _≤_};
 ghost use lib.ListN.{length};
 ghost use Rattle.model.specs.Words.{lent};
 ghost use Rattle.model.specs.LeafWalk as W;
-ghost use Rattle.text.specs.Lines.{Puts, line};
-ghost use Rattle.records.specs.Records as R;
-ghost use Rattle.calls.specs.Calls.{lentRecords, perform, walkLines};
-ghost use Rattle.calls.specs.Steps.{Does, memory};
+ghost use Rattle.script_text.specs.Lines.{Puts, line};
+ghost use Rattle.script_records.specs.Records as R;
+ghost use Rattle.script_calls.specs.Calls.{lentRecords, perform, walkLines};
+ghost use Rattle.script_calls.specs.Steps.{Does, memory};
 ghost use Rattle.script_walk.specs.Walked.{Walks};
-use calls::Progress;
+use script_calls::Progress;
 use model::cursor::RowPageIndexMemCursor;
 use model::id::RowID;
 
@@ -31,14 +31,14 @@ fn walk_once(
     requires { ⌜ length (now list) ≡ 4096 ⌝ }
     ensures { λ r. ⌜ Walks (W.nextLeafOf lent (now (s .entry)) cursor lentRecords) (now (out .entry)) at (now (out .exit)) r ⌝ }
 {
-    let step = byvalue::next_words(s, cursor, list);
+    let step = next_words::next_words(s, cursor, list);
     let answer = step.answer;
     let next = step.cursor;
     let place = lines::put_next(out, at, answer);
     WalkStep {
         cursor: next,
         at: place,
-        goes: byvalue::gives_leaf(answer),
+        goes: next_words::gives_leaf(answer),
     }
 }
 
@@ -70,7 +70,7 @@ pub fn walk_step(s: &[u64], used: usize, row: u64, out: &mut [u8], at: usize) ->
     ensures { λ r. ⌜ Does (perform (memory (now (s .entry)) used) (R.Walk row)) (now (out .entry)) at (now (s .entry)) (now (out .exit)) r ⌝ }
 {
     let mut list = [0u64; 4096];
-    let cursor = leaf_step::sought(RowID(row));
+    let cursor = next_step::sought(RowID(row));
     let place = walk_on(&s[..used], cursor, &mut list, out, at);
     Progress {
         used,

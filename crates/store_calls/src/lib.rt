@@ -1,17 +1,17 @@
 // The calls on a store that are lent its words, each with its lines.
 
-use create;
-use destroy;
-use destroy_empty;
-use find;
-use full_check;
-use insert;
+use call_create;
+use call_release;
+use call_release_empty;
+use call_find;
+use call_check;
+use call_append;
 use lines;
 use model::answer::Created;
 use model::answer::Destroyed;
 use model::id::PageID;
 use model::id::RowID;
-use prune;
+use call_prune;
 use store_print;
 
 pub enum Call {
@@ -45,7 +45,7 @@ fn is_done(a: Created) -> bool {
 }
 
 pub fn make(s: &mut [u64], n: &[u64], out: &mut [u8], at: usize) -> Made {
-    let a = create::new(s, number(n, 0), number(n, 1), RowID(number(n, 2)));
+    let a = call_create::new(s, number(n, 0), number(n, 1), RowID(number(n, 2)));
     let place = lines::put_created(out, at, a);
     Made {
         is_done: is_done(a),
@@ -57,7 +57,7 @@ fn cut(s: &mut [u64], n: &[u64], out: &mut [u8], at: usize) -> usize {
     if n.len() < 2 {
         return at;
     }
-    let a = prune::prune_checkpoint_prefix(s, RowID(n[0]), RowID(n[1]), &n[2..]);
+    let a = call_prune::prune_checkpoint_prefix(s, RowID(n[0]), RowID(n[1]), &n[2..]);
     lines::put_pruned(out, at, a)
 }
 
@@ -72,7 +72,7 @@ fn put_pages(out: &mut [u8], at: usize, a: Destroyed, pages: &[u64]) -> usize {
                 return at;
             }
             let len = count as usize;
-            let place = text::put_bytes(out, at, b"pages");
+            let place = script_text::put_bytes(out, at, b"pages");
             store_print::end_with(out, place, &pages[0..len])
         }
         Destroyed::Refused(_) => at,
@@ -81,7 +81,7 @@ fn put_pages(out: &mut [u8], at: usize, a: Destroyed, pages: &[u64]) -> usize {
 
 // With a list for the page ids.
 fn release(s: &mut [u64], pivot: u64, pages: &mut [u64], out: &mut [u8], at: usize) -> usize {
-    let a = destroy::destroy(s, RowID(pivot), pages);
+    let a = call_release::destroy(s, RowID(pivot), pages);
     let place = lines::put_destroyed(out, at, a);
     put_pages(out, place, a, pages)
 }
@@ -96,13 +96,13 @@ pub fn perform(
 ) -> usize {
     match c {
         Call::Append => {
-            let a = insert::insert_row_page(s, number(n, 0), PageID(number(n, 1)));
+            let a = call_append::insert_row_page(s, number(n, 0), PageID(number(n, 1)));
             lines::put_inserted(out, at, a)
         }
-        Call::Find => lines::put_location(out, at, find::try_find_row(s, RowID(number(n, 0)))),
+        Call::Find => lines::put_location(out, at, call_find::try_find_row(s, RowID(number(n, 0)))),
         Call::Prune => cut(s, n, out, at),
         Call::Release => release(s, number(n, 0), pages, out, at),
-        Call::ReleaseEmpty => lines::put_destroyed(out, at, destroy_empty::destroy_empty(s)),
-        Call::Check => store_print::put_checked(out, at, full_check::full_check(s)),
+        Call::ReleaseEmpty => lines::put_destroyed(out, at, call_release_empty::destroy_empty(s)),
+        Call::Check => store_print::put_checked(out, at, call_check::full_check(s)),
     }
 }

@@ -1,7 +1,7 @@
 // The lines of a picture.
 
 use model::node::RowPageIndexNodeHeader;
-use node::layout::Layout;
+use node_read::layout::Layout;
 use store_print;
 use store_words;
 
@@ -11,22 +11,22 @@ pub fn put_shape(out: &mut [u8], at: usize, s: &[u64], n: u64) -> usize {
     let start = store_words::part(s, n, 2);
     let end = store_words::part(s, n, 3);
     let words = [n, height, count, start, end];
-    let place = text::put_bytes(out, at, b"node");
+    let place = script_text::put_bytes(out, at, b"node");
     store_print::end_with(out, place, &words)
 }
 
 // `NONE`, or the row.
 pub fn put_end(out: &mut [u8], at: usize, end: u64) -> usize {
     if end == RowPageIndexNodeHeader::NONE {
-        return text::put_bytes(out, at, b"NONE");
+        return script_text::put_bytes(out, at, b"NONE");
     }
-    text::put_decimal(out, at, end)
+    script_text::put_decimal(out, at, end)
 }
 
 // The number of a node, after a mark.
 pub fn put_node_no(out: &mut [u8], at: usize, n: u64) -> usize {
-    let place = text::put_byte(out, at, b'#');
-    text::put_decimal(out, place, n)
+    let place = script_text::put_byte(out, at, b'#');
+    script_text::put_decimal(out, place, n)
 }
 
 // Two spaces for each node above.
@@ -34,7 +34,7 @@ fn put_indent(out: &mut [u8], at: usize, depth: usize) -> usize {
     let mut place = at;
     let mut i: usize = 1;
     while i < depth {
-        place = text::put_bytes(out, place, b"  ");
+        place = script_text::put_bytes(out, place, b"  ");
         i += 1;
     }
     place
@@ -42,8 +42,8 @@ fn put_indent(out: &mut [u8], at: usize, depth: usize) -> usize {
 
 // Words and a number.
 fn put_named(out: &mut [u8], at: usize, name: &[u8], n: u64) -> usize {
-    let place = text::put_bytes(out, at, name);
-    text::put_decimal(out, place, n)
+    let place = script_text::put_bytes(out, at, name);
+    script_text::put_decimal(out, place, n)
 }
 
 // The first line: how many words are lent, and three words of the header.
@@ -52,7 +52,7 @@ pub fn put_head(out: &mut [u8], at: usize, s: &[u64]) -> usize {
     let place = put_named(out, place, b" words, capacity ", store_words::word(s, 0));
     let place = put_named(out, place, b", nodes ", store_words::word(s, 1));
     let place = put_named(out, place, b", root #", store_words::word(s, 2));
-    text::put_byte(out, place, b'\n')
+    script_text::put_byte(out, place, b'\n')
 }
 
 // The number that an entry leads to: a page in a leaf, a node in a branch.
@@ -65,7 +65,7 @@ fn put_target(out: &mut [u8], at: usize, height: u64, n: u64) -> usize {
 
 fn put_entry(out: &mut [u8], at: usize, s: &[u64], n: u64, i: u64) -> usize {
     let place = put_named(out, at, b"  ", store_words::row(s, n, i));
-    let place = text::put_byte(out, place, b':');
+    let place = script_text::put_byte(out, place, b':');
     let height = store_words::part(s, n, 0);
     put_target(out, place, height, store_words::child(s, n, i))
 }
@@ -75,7 +75,7 @@ fn put_title(out: &mut [u8], at: usize, s: &[u64], n: u64) -> usize {
     let place = put_node_no(out, at, n);
     let place = put_named(out, place, b" height ", store_words::part(s, n, 0));
     let place = put_named(out, place, b" rows ", store_words::part(s, n, 2));
-    let place = text::put_bytes(out, place, b"..");
+    let place = script_text::put_bytes(out, place, b"..");
     put_end(out, place, store_words::part(s, n, 3))
 }
 
@@ -89,7 +89,7 @@ fn put_entries(out: &mut [u8], at: usize, s: &[u64], n: u64) -> usize {
         place = put_entry(out, place, s, n, i);
         i += 1;
     }
-    text::put_byte(out, place, b'\n')
+    script_text::put_byte(out, place, b'\n')
 }
 
 // The line of a node at a depth.
@@ -104,20 +104,20 @@ pub fn put_node(out: &mut [u8], at: usize, s: &[u64], depth: usize, n: u64) -> u
 pub fn put_free(out: &mut [u8], at: usize, s: &[u64]) -> usize {
     let mut place = store_print::room(out, at);
     place = put_named(out, place, b"free ", store_words::word(s, 4));
-    place = text::put_byte(out, place, b':');
+    place = script_text::put_byte(out, place, b':');
     let mut n = store_words::word(s, 3);
     let mut k: u64 = 0;
     while k < Layout::MAX_POOL {
         if store_words::word(s, 4) <= k {
-            return text::put_byte(out, place, b'\n');
+            return script_text::put_byte(out, place, b'\n');
         }
         if store_words::word(s, 1) <= n {
-            return text::put_byte(out, place, b'\n');
+            return script_text::put_byte(out, place, b'\n');
         }
         place = store_print::room(out, place);
         place = put_named(out, place, b" #", n);
         n = store_words::part(s, n, 1);
         k += 1;
     }
-    text::put_byte(out, place, b'\n')
+    script_text::put_byte(out, place, b'\n')
 }

@@ -8,17 +8,17 @@ use model::answer::Refusal;
 use model::id::NodeNo;
 use model::node::RowPageIndexNodeHeader;
 use model::path::Path;
-use node::header;
-use node::header::Opened;
-use node::layout::Layout;
+use node_read::header;
+use node_read::header::Opened;
+use node_read::layout::Layout;
 use store_print;
 use store_words;
 
 // A value and another, with words between and after.
 fn put_two(out: &mut [u8], at: usize, what: &[u8], is: u64, between: &[u8], other: u64) -> usize {
-    let place = text::put_bytes(out, at, what);
+    let place = script_text::put_bytes(out, at, what);
     let place = draw::put_end(out, place, is);
-    let place = text::put_bytes(out, place, between);
+    let place = script_text::put_bytes(out, place, between);
     draw::put_end(out, place, other)
 }
 
@@ -105,17 +105,17 @@ fn find_fault(s: &[u64], n: u64) -> Fault {
 }
 
 fn put_node(out: &mut [u8], at: usize, s: &[u64], n: u64) -> usize {
-    let place = text::put_bytes(out, at, b"wrong: ");
+    let place = script_text::put_bytes(out, at, b"wrong: ");
     let place = draw::put_node_no(out, place, n);
-    let place = text::put_bytes(out, place, b": ");
+    let place = script_text::put_bytes(out, place, b": ");
     let place = put_fault(out, place, find_fault(s, n));
-    text::put_byte(out, place, b'\n')
+    script_text::put_byte(out, place, b'\n')
 }
 
 // Capacity, nodes and length of a header that makes no store.
 fn put_size(out: &mut [u8], at: usize, l: Layout) -> usize {
     if l.capacity < Layout::MIN_CAPACITY {
-        return text::put_line1(
+        return script_text::put_line1(
             out,
             at,
             b"wrong: a capacity of 2 to 4,094 is wanted, not",
@@ -123,7 +123,7 @@ fn put_size(out: &mut [u8], at: usize, l: Layout) -> usize {
         );
     }
     if Layout::MAX_CAPACITY < l.capacity {
-        return text::put_line1(
+        return script_text::put_line1(
             out,
             at,
             b"wrong: a capacity of 2 to 4,094 is wanted, not",
@@ -131,12 +131,12 @@ fn put_size(out: &mut [u8], at: usize, l: Layout) -> usize {
         );
     }
     if l.pool < Layout::MIN_POOL {
-        return text::put_line1(out, at, b"wrong: 1 to 65,535 nodes are wanted, not", l.pool);
+        return script_text::put_line1(out, at, b"wrong: 1 to 65,535 nodes are wanted, not", l.pool);
     }
     if Layout::MAX_POOL < l.pool {
-        return text::put_line1(out, at, b"wrong: 1 to 65,535 nodes are wanted, not", l.pool);
+        return script_text::put_line1(out, at, b"wrong: 1 to 65,535 nodes are wanted, not", l.pool);
     }
-    text::put_line1(
+    script_text::put_line1(
         out,
         at,
         b"wrong: the words that are lent; such a store has",
@@ -147,7 +147,7 @@ fn put_size(out: &mut [u8], at: usize, l: Layout) -> usize {
 // The words of a header that make no store.
 pub fn put_header(out: &mut [u8], at: usize, s: &[u64]) -> usize {
     if s.len() < 8 {
-        return text::put_line(out, at, b"wrong: fewer than 8 words are lent");
+        return script_text::put_line(out, at, b"wrong: fewer than 8 words are lent");
     }
     let pool = s[1];
     let l = Layout {
@@ -159,12 +159,12 @@ pub fn put_header(out: &mut [u8], at: usize, s: &[u64]) -> usize {
         return put_size(out, at, l);
     }
     if pool < s[2] {
-        return text::put_line1(out, at, b"wrong: the root's number is", s[2]);
+        return script_text::put_line1(out, at, b"wrong: the root's number is", s[2]);
     }
     if pool < s[3] {
-        return text::put_line1(out, at, b"wrong: the first free number is", s[3]);
+        return script_text::put_line1(out, at, b"wrong: the first free number is", s[3]);
     }
-    text::put_line1(out, at, b"wrong: the free count is", s[4])
+    script_text::put_line1(out, at, b"wrong: the free count is", s[4])
 }
 
 // A chain that does not end with P after the free count's nodes; or a tree and a chain that do not hold all nodes.
@@ -176,19 +176,19 @@ fn put_chain(out: &mut [u8], at: usize, s: &[u64]) -> usize {
     while k < Layout::MAX_POOL {
         if free <= k {
             if n == pool {
-                return text::put_line(
+                return script_text::put_line(
                     out,
                     at,
                     b"wrong: tree and free nodes do not add up to all nodes",
                 );
             }
-            return text::put_line1(out, at, b"wrong: after the last free node stands", n);
+            return script_text::put_line1(out, at, b"wrong: after the last free node stands", n);
         }
         if pool <= n {
-            return text::put_line1(out, at, b"wrong: so many free nodes are in the chain:", k);
+            return script_text::put_line1(out, at, b"wrong: so many free nodes are in the chain:", k);
         }
         if store_words::part(s, n, 0) != RowPageIndexNodeHeader::FREE_MARK {
-            return text::put_line1(out, at, b"wrong: in the chain, not free: node", n);
+            return script_text::put_line1(out, at, b"wrong: in the chain, not free: node", n);
         }
         n = store_words::part(s, n, 1);
         k += 1;

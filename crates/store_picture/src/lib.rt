@@ -5,11 +5,11 @@ pub mod explain;
 pub mod fault;
 pub mod visit;
 
-use full_check;
+use call_check;
 use model::answer::Checked;
 use model::answer::Refusal;
-use node::header;
-use node::header::Opened;
+use node_read::header;
+use node_read::header::Opened;
 use store_print;
 use store_words;
 
@@ -59,7 +59,7 @@ fn put_parts(out: &mut [u8], at: usize, s: &[u64]) -> usize {
     match header::open(s) {
         Opened::Refused(r) => match r {
             Refusal::Closed => {
-                let place = text::put_line(out, at, b"closed");
+                let place = script_text::put_line(out, at, b"closed");
                 draw::put_free(out, place, s)
             }
             _ => explain::put_header(out, at, s),
@@ -86,7 +86,7 @@ fn put_wrong(out: &mut [u8], at: usize, s: &[u64], a: Checked) -> usize {
 pub fn picture(out: &mut [u8], at: usize, s: &[u64]) -> usize {
     let place = draw::put_head(out, at, s);
     let place = put_parts(out, place, s);
-    let a = full_check::full_check(s);
+    let a = call_check::full_check(s);
     let place = put_wrong(out, place, s, a);
     store_print::put_checked(out, place, a)
 }

@@ -28,7 +28,7 @@ pub fn room(out: &[u8], at: usize) -> usize {
 
 pub fn put_refusal(out: &mut [u8], at: usize, r: Refusal) -> usize {
     let n = answer_numbers::number_of(r);
-    text::put_line2(out, at, b"no", n.0, n.1)
+    script_text::put_line2(out, at, b"no", n.0, n.1)
 }
 
 // The full check's line.
@@ -38,7 +38,7 @@ pub fn put_checked(out: &mut [u8], at: usize, a: Checked) -> usize {
             entries,
             nodes,
             free,
-        } => text::put_line3(out, at, b"check", entries, nodes, free),
+        } => script_text::put_line3(out, at, b"check", entries, nodes, free),
         Checked::Refused(r) => put_refusal(out, at, r),
     }
 }
@@ -49,25 +49,25 @@ pub fn end_with(out: &mut [u8], at: usize, numbers: &[u64]) -> usize {
     let mut i: usize = 0;
     while i < numbers.len() {
         place = room(out, place);
-        place = text::put_number(out, place, numbers[i]);
+        place = script_text::put_number(out, place, numbers[i]);
         i += 1;
     }
-    text::put_byte(out, place, b'\n')
+    script_text::put_byte(out, place, b'\n')
 }
 
 // A line with the rows and pages of the first records.
 pub fn put_entries(out: &mut [u8], at: usize, list: [PageEntry; 4094], count: u64) -> usize {
-    let mut place = text::put_bytes(out, at, b"entries");
+    let mut place = script_text::put_bytes(out, at, b"entries");
     let mut i: usize = 0;
     while i < 4094 {
         if count <= i as u64 {
-            return text::put_byte(out, place, b'\n');
+            return script_text::put_byte(out, place, b'\n');
         }
         let e = list[i];
         place = room(out, place);
-        place = text::put_number(out, place, e.row_id.0);
-        place = text::put_number(out, place, e.page_id.0);
+        place = script_text::put_number(out, place, e.row_id.0);
+        place = script_text::put_number(out, place, e.page_id.0);
         i += 1;
     }
-    text::put_byte(out, place, b'\n')
+    script_text::put_byte(out, place, b'\n')
 }

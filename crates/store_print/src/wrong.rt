@@ -17,16 +17,16 @@ pub enum Wrong {
 fn put_reason(out: &mut [u8], at: usize, wrong: Wrong) -> usize {
     match wrong {
         Wrong::Nothing => at,
-        Wrong::LineTooLong => text::put_bytes(out, at, b"more than 65,535 bytes"),
-        Wrong::NoSuchName => text::put_bytes(out, at, b"no call has this name"),
-        Wrong::NoNumber => text::put_bytes(out, at, b"a word that is no number"),
-        Wrong::NumberTooLarge => text::put_bytes(out, at, b"a number from 2^64 on"),
-        Wrong::TooFewNumbers => text::put_bytes(out, at, b"too few numbers"),
-        Wrong::TooManyNumbers => text::put_bytes(out, at, b"too many numbers"),
-        Wrong::NoSuchWord => text::put_bytes(out, at, b"no such word is lent"),
-        Wrong::NoSuchNode => text::put_bytes(out, at, b"no such word of a node is lent"),
-        Wrong::TooManyWords => text::put_bytes(out, at, b"the program has 65,536 words"),
-        Wrong::TooLongList => text::put_bytes(out, at, b"the program has lists of 32,768"),
+        Wrong::LineTooLong => script_text::put_bytes(out, at, b"more than 65,535 bytes"),
+        Wrong::NoSuchName => script_text::put_bytes(out, at, b"no call has this name"),
+        Wrong::NoNumber => script_text::put_bytes(out, at, b"a word that is no number"),
+        Wrong::NumberTooLarge => script_text::put_bytes(out, at, b"a number from 2^64 on"),
+        Wrong::TooFewNumbers => script_text::put_bytes(out, at, b"too few numbers"),
+        Wrong::TooManyNumbers => script_text::put_bytes(out, at, b"too many numbers"),
+        Wrong::NoSuchWord => script_text::put_bytes(out, at, b"no such word is lent"),
+        Wrong::NoSuchNode => script_text::put_bytes(out, at, b"no such word of a node is lent"),
+        Wrong::TooManyWords => script_text::put_bytes(out, at, b"the program has 65,536 words"),
+        Wrong::TooLongList => script_text::put_bytes(out, at, b"the program has lists of 32,768"),
     }
 }
 
@@ -42,9 +42,9 @@ pub fn put_wrong(out: &mut [u8], at: usize, line: u64, wrong: Wrong) -> usize {
     if is_nothing(wrong) {
         return at;
     }
-    let place = text::put_bytes(out, at, b"line");
-    let place = text::put_number(out, place, line);
-    let place = text::put_bytes(out, place, b": ");
+    let place = script_text::put_bytes(out, at, b"line");
+    let place = script_text::put_number(out, place, line);
+    let place = script_text::put_bytes(out, place, b": ");
     let place = put_reason(out, place, wrong);
-    text::put_byte(out, place, b'\n')
+    script_text::put_byte(out, place, b'\n')
 }

@@ -59,28 +59,28 @@ fn create(all: &mut [u64], n: &[u64], t: Settings, out: &mut [u8], at: usize) ->
 // `words N` for all calls; `words` alone: a create is lent what it needs.
 fn lend_words(all: usize, n: &[u64], t: Settings, out: &mut [u8], at: usize) -> Step {
     if n.len() == 0 {
-        let place = text::put_line(out, at, b"words");
+        let place = script_text::put_line(out, at, b"words");
         return right(setting::with_lengths(t, t.words, false, t.list), place);
     }
     let many = n[0];
     if (all as u64) < many {
         return refuse(t, at, Wrong::TooManyWords);
     }
-    let place = text::put_line1(out, at, b"words", many);
+    let place = script_text::put_line1(out, at, b"words", many);
     right(setting::with_lengths(t, many as usize, true, t.list), place)
 }
 
 // `list N` for `next`, `walk` and `release`; `list` alone: the longest.
 fn lend_list(n: &[u64], t: Settings, out: &mut [u8], at: usize) -> Step {
     if n.len() == 0 {
-        let place = text::put_line(out, at, b"list");
+        let place = script_text::put_line(out, at, b"list");
         return right(setting::with_lengths(t, t.words, t.is_fixed, 32768), place);
     }
     let many = n[0];
     if 32768 < many {
         return refuse(t, at, Wrong::TooLongList);
     }
-    let place = text::put_line1(out, at, b"list", many);
+    let place = script_text::put_line1(out, at, b"list", many);
     right(
         setting::with_lengths(t, t.words, t.is_fixed, many as usize),
         place,
@@ -92,7 +92,7 @@ fn seek(row: u64, t: Settings, out: &mut [u8], at: usize) -> Step {
     let cursor = store_walk::seek(old, row);
     right(
         setting::with_cursor(t, cursor),
-        text::put_line(out, at, b"seek"),
+        script_text::put_line(out, at, b"seek"),
     )
 }
 

@@ -24,7 +24,7 @@ fn changed(is_done: bool, out: &mut [u8], at: usize, name: &[u8], wrong: Wrong) 
     if !is_done {
         return Used { at, wrong };
     }
-    right(text::put_line(out, at, name))
+    right(script_text::put_line(out, at, name))
 }
 
 // The words from a place on, so many; all where there are no numbers.
@@ -82,7 +82,7 @@ fn put(s: &mut [u64], n: &[u64], out: &mut [u8], at: usize) -> Used {
 
 fn fill(s: &mut [u64], x: u64, out: &mut [u8], at: usize) -> Used {
     store_words::fill(s, x);
-    right(text::put_line(out, at, b"fill"))
+    right(script_text::put_line(out, at, b"fill"))
 }
 
 pub fn use_tool(t: Tool, s: &mut [u64], n: &[u64], out: &mut [u8], at: usize) -> Used {

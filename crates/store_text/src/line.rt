@@ -71,7 +71,7 @@ pub fn read_line(block: &mut [u8], input: Input, b: &mut [u8]) -> Line {
                 input: Input { at, end },
             };
         }
-        text::put_byte(b, len, byte);
+        script_text::put_byte(b, len, byte);
         len += 1;
     }
     last_line(len)

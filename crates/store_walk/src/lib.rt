@@ -1,7 +1,7 @@
 // The leaf walk of the store program: the cursor and a list of records are lent by `&mut`.
 
 ghost use Prim.Native.Nat.{_≤_};
-use cursor_lent;
+use next_lent;
 use lines;
 use model::answer::NextLeaf;
 use model::cursor::RowPageIndexMemCursor;
@@ -27,7 +27,7 @@ fn at_most(len: usize) -> usize
 }
 
 pub fn seek(cursor: RowPageIndexMemCursor, row: u64) -> RowPageIndexMemCursor {
-    cursor_lent::seek_on(cursor, RowID(row))
+    next_lent::seek_on(cursor, RowID(row))
 }
 
 fn is_leaf(a: NextLeaf) -> bool {
@@ -63,7 +63,7 @@ pub fn next(
         row_id: RowID(0),
         page_id: PageID(0),
     }; 4094];
-    let step = cursor_lent::next_on(s, cursor, records, at_most(len));
+    let step = next_lent::next_on(s, cursor, records, at_most(len));
     let answer = step.answer;
     let after = step.cursor;
     let list = step.list;
@@ -97,7 +97,7 @@ pub fn walk(s: &[u64], row: u64, len: usize, out: &mut [u8], at: usize) -> usize
 // The cursor's row, and 1 where it is done.
 pub fn put_cursor(out: &mut [u8], at: usize, c: RowPageIndexMemCursor) -> usize {
     if c.done {
-        return text::put_line2(out, at, b"cursor", c.row_id.0, 1);
+        return script_text::put_line2(out, at, b"cursor", c.row_id.0, 1);
     }
-    text::put_line2(out, at, b"cursor", c.row_id.0, 0)
+    script_text::put_line2(out, at, b"cursor", c.row_id.0, 0)
 }

@@ -4,9 +4,9 @@ ghost use Prim.Native.Nat.{_≤_, _<_};
 ghost use lib.ListN.{length};
 use model::answer::Refusal;
 use model::id::NodeNo;
-use node::header;
-use node::header::Opened;
-use node::layout::Layout;
+use node_read::header;
+use node_read::header::Opened;
+use node_read::layout::Layout;
 use store_print;
 
 // The place of no word.
@@ -132,8 +132,8 @@ pub fn dump(out: &mut [u8], at: usize, s: &[u64], from: usize, to: usize) -> usi
     while i < to {
         let end = line_end(i, to);
         place = store_print::room(out, place);
-        place = text::put_bytes(out, place, b"load");
-        place = text::put_number(out, place, i as u64);
+        place = script_text::put_bytes(out, place, b"load");
+        place = script_text::put_number(out, place, i as u64);
         place = store_print::end_with(out, place, &s[i..end]);
         i = end;
     }
@@ -143,7 +143,7 @@ pub fn dump(out: &mut [u8], at: usize, s: &[u64], from: usize, to: usize) -> usi
 // The free nodes in the order of the chain, as many as the free count says, and the number after them; up to the first that
 // is not below P.
 fn put_chain(out: &mut [u8], at: usize, s: &[u64]) -> usize {
-    let mut place = text::put_bytes(out, at, b"chain");
+    let mut place = script_text::put_bytes(out, at, b"chain");
     let mut n = word(s, 3);
     let mut k: u64 = 0;
     while k < Layout::MAX_POOL {
@@ -154,7 +154,7 @@ fn put_chain(out: &mut [u8], at: usize, s: &[u64]) -> usize {
             return end_chain(out, place, n);
         }
         place = store_print::room(out, place);
-        place = text::put_number(out, place, n);
+        place = script_text::put_number(out, place, n);
         n = part(s, n, 1);
         k += 1;
     }
@@ -162,8 +162,8 @@ fn put_chain(out: &mut [u8], at: usize, s: &[u64]) -> usize {
 }
 
 fn end_chain(out: &mut [u8], at: usize, n: u64) -> usize {
-    let place = text::put_number(out, at, n);
-    text::put_byte(out, place, b'\n')
+    let place = script_text::put_number(out, at, n);
+    script_text::put_byte(out, place, b'\n')
 }
 
 // The chain's line, of a closed store too; or the refusal for its header.

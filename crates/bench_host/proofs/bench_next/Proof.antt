@@ -3,7 +3,7 @@ use mathlib.Core.Path.{sym, ap, _∙_}
 use Rattle.model.specs.Refusals.{nextLeaf}
 use Rattle.model.specs.LeafWalk.{seek}
 use Rattle.model.specs.declared.answer.NextLeaf.{NextLeaf}
-use Rattle.byvalue.proofs.Equation.{words-are}
+use Rattle.next_words.proofs.Equation.{words-are}
 use Rattle.bench_host.specs.Numbers.{endNumber}
 use Rattle.bench_host.proofs.Refused.{no-end}
 use Rattle.bench_host.proofs.bench_next.Statement.{statement}

@@ -2,7 +2,7 @@ use borrow.Author.Needs.{needs}
 use mathlib.Core.Path.{_≡_, refl, sym, ap, _∙_}
 use borrow.Author.Tests.{le-leb, lt-leb, eq-eqb, ne-eqb}
 use native.Mathlib.Omega.{arith}
-use Rattle.node.proofs.Opened.{is-open, opens-fits}
+use Rattle.node_read.proofs.Opened.{is-open, opens-fits}
 use Rattle.bench_host.proofs.bench_survey.Statement.{statement}
 use Rattle.bench_host.proofs.bench_survey.Tie as tie
 

@@ -3,7 +3,7 @@ use mathlib.Core.Path.{_≡_, refl, sym, ap, _∙_}
 use borrow.Author.Tests.{le-leb, lt-leb, eq-eqb, ne-eqb}
 use native.Mathlib.Omega.{arith}
 use Rattle.node_test.specs.Test.{nodeTest}
-use Rattle.node.proofs.Opened.{is-open, opens-fits}
+use Rattle.node_read.proofs.Opened.{is-open, opens-fits}
 use Rattle.bench_host.proofs.bench_test_node.Statement.{statement}
 use Rattle.bench_host.proofs.bench_test_node.Tie as tie
 

@@ -7,8 +7,8 @@ use Rattle.model.specs.Words.{fill}
 use Rattle.model.specs.Refusals.{Answer}
 use Rattle.answer_numbers.specs.Numbers.{answerWords}
 use Rattle.model.specs.declared.cursor.RowPageIndexMemCursor.{RowPageIndexMemCursor}
-use Rattle.byvalue.specs.Written.{nextWordsOf, WordOutcome}
-use Rattle.byvalue.proofs.Equation.{words-are}
+use Rattle.next_words.specs.Written.{nextWordsOf, WordOutcome}
+use Rattle.next_words.proofs.Equation.{words-are}
 use Rattle.host_cursor.specs.Cursors.{cursorIn, cursorAfter}
 use Rattle.host.proofs.row_page_index_next.Statement.{statement}
 use Rattle.host.proofs.row_page_index_next.Tie as tie

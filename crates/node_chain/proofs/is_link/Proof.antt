@@ -3,7 +3,7 @@ use borrow.Author.Tests.{not-true, not-false}
 use mathlib.Core.Path.{_≡_, sym, ap, _∙_}
 use native.Mathlib.Omega.{arith}
 use lib.Dec.{eqb, leb}
-use Rattle.node.specs.Layout.{shapeOf}
+use Rattle.node_read.specs.Layout.{shapeOf}
 use Rattle.model.specs.Words.{freeMark}
 use Rattle.model.specs.declared.node.RowPageIndexNodeHeader.{RowPageIndexNodeHeader}
 use Rattle.node_chain.proofs.Links.{link-out, link-unmarked, link-marked}

@@ -7,11 +7,11 @@ use native.Mathlib.Omega.{arith}
 use borrow.Author.Tests.{not-true, not-false}
 use native.Mathlib.Nat.{sub-zero}
 use lib.ListN.{length, length-set}
-use Rattle.node.specs.Layout.{shapeOf}
+use Rattle.node_read.specs.Layout.{shapeOf}
 use Rattle.model.specs.Reading.{occ}
 use Rattle.model.specs.Append.{chainSound, firsts, past}
 use Rattle.node_chain.specs.Chain.{listed}
-use Rattle.pool.proofs.Turns.{turn, stop}
+use Rattle.node_write.proofs.Turns.{turn, stop}
 use Rattle.model.specs.declared.node.RowPageIndexNodeHeader.{RowPageIndexNodeHeader}
 use Rattle.node_chain.proofs.Links.{link-of, link-is, listed-set, linked, broken, firsts-turn, firsts-done}
 use Rattle.node_chain.proofs.read_chain.Statement.{statement}

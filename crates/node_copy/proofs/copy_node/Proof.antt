@@ -3,8 +3,8 @@ use Prim.Native.Nat.{_-_}
 use mathlib.Core.Path.{_≡_, sym, _∙_}
 use native.Mathlib.Nat.{sub-zero}
 use Rattle.model.specs.Words.{copied, copyFrom}
-use Rattle.node.specs.Layout.{shapeOf, Fits}
-use Rattle.pool.proofs.Turns.{turn, stop}
+use Rattle.node_read.specs.Layout.{shapeOf, Fits}
+use Rattle.node_write.proofs.Turns.{turn, stop}
 use Rattle.node_copy.proofs.copy_node.Statement.{statement}
 use Rattle.node_copy.proofs.copy_node.Tie as tie
 

@@ -3,7 +3,7 @@ use Prim.Native.Nat.{ℕ, _+_, _-_, _<_, _≤_}
 use mathlib.Core.Path.{_≡_, refl, sym, ap, _∙_, subst}
 use mathlib.Core.Logic.{⊎-elim, _⊎_, inl, inr}
 use native.Mathlib.Omega.{arith}
-use Rattle.node.specs.Layout.{shapeOf}
+use Rattle.node_read.specs.Layout.{shapeOf}
 use Rattle.model.specs.Words.{part, row}
 use Rattle.node_place.proofs.Places.{Looked, moved, kept, found, place-below}
 use Rattle.node_place.proofs.narrow.Statement.{statement}

@@ -2,7 +2,7 @@ use borrow.Author.Needs.{needs}
 use Prim.Native.Nat.{ℕ, _+_, _-_, _<_, _≤_}
 use mathlib.Core.Path.{_≡_, refl, sym, ap, _∙_, subst}
 use native.Mathlib.Omega.{arith}
-use Rattle.node.specs.Layout.{shapeOf}
+use Rattle.node_read.specs.Layout.{shapeOf}
 use Rattle.node_place.proofs.Places.{lies-in-all, begins}
 use Rattle.node_place.proofs.place_of.Statement.{statement}
 use Rattle.node_place.proofs.place_of.Tie as tie

@@ -3,7 +3,7 @@ use borrow.Author.Tests.{not-true, not-false}
 use mathlib.Core.Path.{_≡_, _∙_, ap, sym}
 use mathlib.Core.Bool.{true, false}
 use lib.Dec.{eqb, leb}
-use Rattle.node.specs.Layout.{shapeOf}
+use Rattle.node_read.specs.Layout.{shapeOf}
 use Rattle.model.specs.Words.{part, height, count, start, end, NONE, rowLimit}
 use Rattle.model.specs.Tree.{emptyRoot}
 use Rattle.model.specs.declared.node.RowPageIndexNodeHeader.{RowPageIndexNodeHeader}

@@ -3,7 +3,7 @@ use borrow.Author.Tests.{not-true, not-false}
 use mathlib.Core.Path.{_≡_, _∙_, ap, sym}
 use mathlib.Core.Bool.{true, false}
 use lib.Dec.{leb}
-use Rattle.node.specs.Layout.{shapeOf}
+use Rattle.node_read.specs.Layout.{shapeOf}
 use Rattle.model.specs.Words.{part, height, maxHeight}
 use Rattle.model.specs.Tree.{rootSound, sound, nodeAt, Open}
 use Rattle.model.specs.declared.node.RowPageIndexNodeHeader.{RowPageIndexNodeHeader}

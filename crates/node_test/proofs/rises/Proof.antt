@@ -3,7 +3,7 @@ use borrow.Author.Tests.{lt-ltb, le-ltb}
 use native.Mathlib.Omega.{arith}
 use Prim.Native.Nat.{ℕ, _+_, _-_, _<_, _≤_}
 use mathlib.Core.Path.{_≡_, _∙_, ap, refl, sym}
-use Rattle.node.specs.Layout.{shapeOf}
+use Rattle.node_read.specs.Layout.{shapeOf}
 use Rattle.model.specs.Words.{row}
 use Rattle.model.specs.Tree.{rising, pairsFrom}
 use Rattle.node_test.proofs.Rows.{rest, rise-all, rise-on, rise-stop, rise-end, rise-falls, rise-tail}

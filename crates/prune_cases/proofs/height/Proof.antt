@@ -1,7 +1,7 @@
 use borrow.Author.Needs.{needs}
 use mathlib.Core.Path.{sym, _∙_}
 use native.Mathlib.Omega.{arith}
-use Rattle.node.proofs.Opened.{is-open, opens-fits}
+use Rattle.node_read.proofs.Opened.{is-open, opens-fits}
 use Rattle.prune_cases.proofs.height.Statement.{statement}
 use Rattle.prune_cases.proofs.height.Tie as tie
 

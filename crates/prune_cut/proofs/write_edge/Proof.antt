@@ -4,9 +4,9 @@ use mathlib.Core.List.{List, reverse}
 use mathlib.Core.Path.{ap, _∙_}
 use Rattle.model.specs.Words.{freeAll}
 use Rattle.model.specs.Prune.{copyAll, trimAll}
-use Rattle.node.specs.Layout.{shapeOf}
+use Rattle.node_read.specs.Layout.{shapeOf}
 use Rattle.node_chain.specs.Chain.{listed}
-use Rattle.boundary.specs.Trims.{trimsOf}
+use Rattle.prune_boundary.specs.Trims.{trimsOf}
 use Rattle.prune_cut.proofs.Written.{after-free, after-trim, after-copy, in-order}
 use Rattle.prune_cut.proofs.write_edge.Statement.{statement}
 use Rattle.prune_cut.proofs.write_edge.Tie as tie

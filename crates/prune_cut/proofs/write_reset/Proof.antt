@@ -3,9 +3,9 @@ use Prim.Native.Nat.{ℕ}
 use mathlib.Core.List.{List}
 use mathlib.Core.Path.{ap, _∙_}
 use Rattle.model.specs.Words.{freeAll, emptied}
-use Rattle.node.specs.Layout.{shapeOf}
-use Rattle.boundary.specs.Edge.{wentOf}
-use Rattle.boundary.specs.Trims.{trimsOf}
+use Rattle.node_read.specs.Layout.{shapeOf}
+use Rattle.prune_boundary.specs.Edge.{wentOf}
+use Rattle.prune_boundary.specs.Trims.{trimsOf}
 use Rattle.prune_cut.proofs.Order.{emptied-after}
 use Rattle.prune_cut.proofs.Written.{freed-header}
 use Rattle.prune_cut.proofs.write_reset.Statement.{statement}

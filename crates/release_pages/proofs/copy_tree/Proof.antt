@@ -3,13 +3,13 @@ use mathlib.Core.Bool.{false}
 use mathlib.Core.Path.{_≡_, refl, sym, _∙_}
 use native.Mathlib.Omega.{arith}
 use lib.ListN.{length}
-use Rattle.node.specs.Layout.{shapeOf}
+use Rattle.node_read.specs.Layout.{shapeOf}
 use Rattle.model.specs.Words.{fill}
 use Rattle.model.specs.Reading.{pageIds, rootEntries}
 use Rattle.model.specs.Paths.{lastOf}
 use Rattle.model.proofs.Fill.{length-fill}
-use Rattle.walk.specs.Left.{left}
-use Rattle.walk.proofs.Turns.{sure, at-top, step-room, step-short}
+use Rattle.tree_turn.specs.Left.{left}
+use Rattle.tree_turn.proofs.Turns.{sure, at-top, step-room, step-short}
 use Rattle.release_pages.proofs.Taking.{Taking, start-taking, all-taken, leaf-room, takes-out, takes-in}
 use Rattle.release_pages.proofs.copy_tree.Statement.{statement}
 use Rattle.release_pages.proofs.copy_tree.Tie as tie

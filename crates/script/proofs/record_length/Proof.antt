@@ -1,5 +1,5 @@
 use native.Mathlib.Omega.{arith}
-use Rattle.records.proofs.Heads.{within}
+use Rattle.script_records.proofs.Heads.{within}
 use borrow.Author.Needs.{needs}
 use Rattle.script.proofs.record_length.Statement.{statement}
 use Rattle.script.proofs.record_length.Tie as tie

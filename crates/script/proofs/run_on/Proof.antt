@@ -7,12 +7,12 @@ use mathlib.Core.List.{List}
 use native.Mathlib.Omega.{arith}
 use lib.ListN.{length, drop, length-drop, drop-of-length-le}
 use lib.Seq.{drop-drop}
-use Rattle.text.specs.Lines.{Puts}
-use Rattle.text.proofs.Putting.{same}
-use Rattle.records.specs.Records.{first}
-use Rattle.calls.proofs.Performing.{used-fits}
+use Rattle.script_text.specs.Lines.{Puts}
+use Rattle.script_text.proofs.Putting.{same}
+use Rattle.script_records.specs.Records.{first}
+use Rattle.script_calls.proofs.Performing.{used-fits}
 use Rattle.script_step.specs.Script.{listingFrom}
-use Rattle.calls.specs.Steps.{memory}
+use Rattle.script_calls.specs.Steps.{memory}
 use Rattle.script_step.proofs.Stepping.{goes-whole, stops, goes-on, next-fits}
 use Rattle.script.proofs.run_on.Statement.{statement}
 use Rattle.script.proofs.run_on.Tie as tie

@@ -3,7 +3,7 @@ use native.Mathlib.Omega.{arith}
 use mathlib.Core.Path.{sym, _∙_}
 use borrow.Author.Tests.{not-true, not-false}
 use Rattle.model.proofs.Header.{range-of}
-use Rattle.calls.proofs.Performing.{out-of-range, too-many, enough}
+use Rattle.script_calls.proofs.Performing.{out-of-range, too-many, enough}
 use Rattle.script_create.proofs.create_length.Statement.{statement}
 use Rattle.script_create.proofs.create_length.Tie as tie
 

@@ -2,7 +2,7 @@ use lib.Seq.{length-take-le}
 use mathlib.Core.Path.{sym}
 use lib.ListN.{length}
 use native.Mathlib.Omega.{arith}
-use Rattle.calls.proofs.Performing.{creates, within}
+use Rattle.script_calls.proofs.Performing.{creates, within}
 use borrow.Author.Needs.{needs}
 use Rattle.script_create.proofs.create_step.Statement.{statement}
 use Rattle.script_create.proofs.create_step.Tie as tie

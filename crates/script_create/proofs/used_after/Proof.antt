@@ -1,5 +1,5 @@
 use Rattle.script_create.proofs.Refused.{keeps}
-use Rattle.calls.specs.Calls.{ifAccepted}
+use Rattle.script_calls.specs.Calls.{ifAccepted}
 use borrow.Author.Needs.{needs}
 use Rattle.script_create.proofs.used_after.Statement.{statement}
 use Rattle.script_create.proofs.used_after.Tie as tie

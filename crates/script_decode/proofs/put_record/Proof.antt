@@ -4,9 +4,9 @@ use mathlib.Core.List.{List}
 use native.Mathlib.Omega.{arith}
 use lib.ListN.{length, take, drop, length-take}
 use borrow.Author.Needs.{needs}
-use Rattle.records.specs.Read.{headOf}
-use Rattle.records.specs.declared.Head.the-variants as H
-use Rattle.records.proofs.Heads.{wholly}
+use Rattle.script_records.specs.Read.{headOf}
+use Rattle.script_records.specs.declared.Head.the-variants as H
+use Rattle.script_records.proofs.Heads.{wholly}
 use Rattle.script_decode.proofs.put_record.Statement.{statement}
 use Rattle.script_decode.proofs.put_record.Tie as tie
 

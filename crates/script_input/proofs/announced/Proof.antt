@@ -2,7 +2,7 @@ use borrow.Author.Needs.{needs}
 use borrow.Author.Tests.{lt-ltb, le-ltb}
 use mathlib.Core.Path.{_≡_, sym, _∙_}
 use native.Mathlib.Omega.{arith}
-use Rattle.records.specs.Records.{bodyLength}
+use Rattle.script_records.specs.Records.{bodyLength}
 use Rattle.script_input.proofs.announced.Statement.{statement}
 use Rattle.script_input.proofs.announced.Tie as tie
 

@@ -1,6 +1,6 @@
 use mathlib.Core.Path.{sym}
 use lib.Seq.{length-take-le}
-use Rattle.calls.proofs.Performing.{prunes}
+use Rattle.script_calls.proofs.Performing.{prunes}
 use borrow.Author.Needs.{needs}
 use Rattle.script_prune.proofs.prune_step.Statement.{statement}
 use Rattle.script_prune.proofs.prune_step.Tie as tie

@@ -1,4 +1,4 @@
-use Rattle.calls.proofs.Performing.{spoiled}
+use Rattle.script_calls.proofs.Performing.{spoiled}
 use borrow.Author.Needs.{needs}
 use Rattle.script_step.proofs.perform_record.Statement.{statement}
 use Rattle.script_step.proofs.perform_record.Tie as tie

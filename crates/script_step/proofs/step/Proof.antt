@@ -1,8 +1,8 @@
 use mathlib.Core.Path.{sym, _∙_}
 use native.Mathlib.Omega.{arith}
-use Rattle.records.proofs.Heads.{wholly}
+use Rattle.script_records.proofs.Heads.{wholly}
 use Rattle.script_step.proofs.Firsts.{first-bad, first-meant, body-short}
-use Rattle.calls.proofs.Performing.{spoiled}
+use Rattle.script_calls.proofs.Performing.{spoiled}
 use borrow.Author.Needs.{needs}
 use Rattle.script_step.proofs.step.Statement.{statement}
 use Rattle.script_step.proofs.step.Tie as tie

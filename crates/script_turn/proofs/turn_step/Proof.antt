@@ -3,9 +3,9 @@ use mathlib.Core.Path.{_≡_}
 use native.Mathlib.Omega.{arith}
 use lib.ListN.{length}
 use borrow.Author.Needs.{needs}
-use Rattle.records.specs.Records.{first}
-use Rattle.calls.specs.Steps.{memory}
-use Rattle.calls.proofs.Performing.{used-fits}
+use Rattle.script_records.specs.Records.{first}
+use Rattle.script_calls.specs.Steps.{memory}
+use Rattle.script_calls.proofs.Performing.{used-fits}
 use Rattle.script_step.proofs.Stepping.{turn-none, turn-some, turn-short}
 use Rattle.script_turn.proofs.turn_step.Statement.{statement}
 use Rattle.script_turn.proofs.turn_step.Tie as tie

@@ -5,9 +5,9 @@ use mathlib.Core.Path.{_≡_, refl, _∙_, subst}
 use mathlib.Core.List.{List}
 use native.Mathlib.Omega.{arith}
 use lib.ListN.{length}
-use Rattle.text.specs.Lines.{Puts}
-use Rattle.text.proofs.Putting.{same}
-use Rattle.calls.specs.Calls.{walkLines}
+use Rattle.script_text.specs.Lines.{Puts}
+use Rattle.script_text.proofs.Putting.{same}
+use Rattle.script_calls.specs.Calls.{walkLines}
 use Rattle.script_walk.proofs.Bound.{left, left-bound, enough, ends, fewer, goes-on}
 use Rattle.script_walk.proofs.walk_on.Statement.{statement}
 use Rattle.script_walk.proofs.walk_on.Tie as tie

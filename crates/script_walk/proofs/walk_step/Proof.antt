@@ -1,6 +1,6 @@
 use mathlib.Core.Path.{sym}
 use lib.Seq.{length-take-le}
-use Rattle.calls.proofs.Performing.{walks}
+use Rattle.script_calls.proofs.Performing.{walks}
 use borrow.Author.Needs.{needs}
 use Rattle.script_walk.proofs.walk_step.Statement.{statement}
 use Rattle.script_walk.proofs.walk_step.Tie as tie

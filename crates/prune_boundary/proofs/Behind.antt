@@ -1,0 +1,185 @@
+-- What a reading has left behind, one turn at a time.
+use Prim.Native.Nat.{ℕ, zero, suc, _+_, _-_, _<_, _≤_, zero-le}
+use mathlib.Core.List.{List, [], _∷_, _++_}
+use mathlib.Core.Bool.{true, false, false≢true}
+use mathlib.Core.Path.{_≡_, refl, sym, ap, _∙_, subst}
+use mathlib.Core.Logic.{_⊎_, inl, inr, ⊎-elim}
+use native.Mathlib.Omega.{arith}
+use native.Mathlib.Nat.{zero-add}
+use lib.Dec.{T, ltb, lt→ltb}
+use borrow.Author.Tests.{lt-ltb, le-ltb, ltb-false}
+use Rattle.model.specs.Words.{Shape, height, count, start, end, row, child}
+use Rattle.model.specs.Tree.{Limit, Below, Level, pairsFrom, nodeAt, level, next, last, sound, allPairs, AllSound}
+use Rattle.model.specs.Reading.{passes, nextRow}
+use Rattle.model.specs.Paths.{stack, trail, lastOf, above, turned, entered, rooted}
+use Rattle.model.specs.declared.path.Position.{Position}
+use Rattle.model.specs.declared.path.Path.{Path}
+use Rattle.model.proofs.Tests.{holds, and-l, by-test}
+use Rattle.model.proofs.Sound.{soundly, sound-at}
+use Rattle.model.proofs.Paths.{stack-pop}
+use Rattle.model.proofs.Writes.{pairs-snoc}
+use Rattle.law_formed.proofs.Clean.{leaf-rises}
+use Rattle.tree_turn.specs.Left.{bound, lowest}
+use Rattle.tree_turn.specs.Turn.{hasChild}
+use Rattle.tree_turn.proofs.Rest.{bound-turned}
+use Rattle.tree_turn.proofs.Tests.{branch}
+use Rattle.tree_turn.proofs.Branch.{Went}
+use Rattle.tree_turn.proofs.InPlace.{popped, enteredPath}
+use Rattle.prune_boundary.specs.Behind.{Passed, limitAt, Done, Above, Behind, BehindPath}
+
+-- one more pair at the end
+all-snoc : {K : Type 0} (Q : K → ℕ → Limit → Type 0) (ps : List (ℕ × K)) (r : ℕ) (x : K) (b : Limit) → allPairs Q ps (Below r) → Q x r b → allPairs Q (ps ++ ((r, x) ∷ [])) b
+unfolding allPairs next
+all-snoc Q [] r x b a q = (q, tt)
+all-snoc Q (p ∷ []) r x b a q = (a .0, (q, tt))
+all-snoc Q (p ∷ p₂ ∷ ps) r x b a q = (a .0, all-snoc Q (p₂ ∷ ps) r x b (a .1) q)
+
+module _ (C : Shape) (P : ℕ) (w : List ℕ) where
+  limit-mid : (h n k : ℕ) (up : List Position) → k < count C w n → limitAt C P w h n k up ≡ Below (row C w n k)
+  limit-mid h n k up l = rw (lt-ltb k (count C w n) l)
+
+  limit-end : (h n k : ℕ) (up : List Position) → count C w n ≤ k → limitAt C P w h n k up ≡ last h (end C w n) (bound C w up)
+  limit-end h n k up l = rw (le-ltb k (count C w n) l)
+
+  pub tall : (h n : ℕ) (up : List Position) → Passed C P w h n up → height C w n ≡ h
+  unfolding level
+  tall h n up p = soundly C h (level C w (suc h) n) (start C w n) (bound C w up) (p .good) .high
+
+  -- no entry is done
+  pub done-none : (h n : ℕ) (up : List Position) → Done C P w h n 0 up
+  unfolding Done pairsFrom allPairs
+  done-none h n up = tt
+
+  -- one more is
+  pub done-more : (h n k : ℕ) (up : List Position) → k < count C w n → Done C P w h n k up → AllSound C P h (level C w h (child C w n k)) (row C w n k) (limitAt C P w h n (k + 1) up) → Done C P w h n (k + 1) up
+  unfolding Done
+  done-more h n k up l d q =
+      let z : k + 1 ≡ suc k = omega arith in
+      let s = pairs-snoc C w (level C w h) n 0 k in
+      let d₂ : allPairs (AllSound C P h) (pairsFrom C w (level C w h) n 0 k) (Below (row C w n k)) = subst (λ (b : Limit). allPairs (AllSound C P h) (pairsFrom C w (level C w h) n 0 k) b) (limit-mid h n k up l) d in
+      subst (λ (j : ℕ). allPairs (AllSound C P h) (pairsFrom C w (level C w h) n 0 j) (limitAt C P w h n (k + 1) up)) (sym z)
+      (subst (λ (ps : List (ℕ × Level h)). allPairs (AllSound C P h) ps (limitAt C P w h n (k + 1) up)) (sym s)
+      (all-snoc (AllSound C P h) (pairsFrom C w (level C w h) n 0 k) (row C w n (0 + k)) (level C w h (child C w n (0 + k))) (limitAt C P w h n (k + 1) up)
+      (subst (λ (j : ℕ). allPairs (AllSound C P h) (pairsFrom C w (level C w h) n 0 k) (Below (row C w n j))) (sym (zero-add k)) d₂)
+      (subst (λ (j : ℕ). AllSound C P h (level C w h (child C w n j)) (row C w n j) (limitAt C P w h n (k + 1) up)) (sym (zero-add k)) q)))
+
+  -- a node all of whose entries are done, or a leaf
+  pub whole : (h n k : ℕ) (up : List Position) → Passed C P w h n up → Done C P w h n k up → k ≤ count C w n → (h ≡ 0) ⊎ (count C w n ≤ k) → AllSound C P (suc h) (level C w (suc h) n) (start C w n) (bound C w up)
+  unfolding AllSound Done level last
+  whole h n k up p d l e =
+      (lt→ltb n P (p .inside), p .good, ⊎-elim (λ (z : h ≡ 0). leaf h n up p z) (λ (z : count C w n ≤ k). full h n k up d (omega arith)) e)
+    where
+      leaf : (h n : ℕ) (up : List Position) → Passed C P w h n up → h ≡ 0 → allPairs (AllSound C P h) (pairsFrom C w (level C w h) n 0 (count C w n)) (last h (end C w n) (bound C w up))
+      leaf zero n up p z = leaf-rises C (level C w 1 n) (start C w n) (bound C w up) (p .good)
+      leaf (suc h) n up p z = absurd (omega arith)
+
+      full : (h n k : ℕ) (up : List Position) → Done C P w h n k up → count C w n ≡ k → allPairs (AllSound C P h) (pairsFrom C w (level C w h) n 0 (count C w n)) (last h (end C w n) (bound C w up))
+      full h n k up d z =
+          subst (λ (j : ℕ). allPairs (AllSound C P h) (pairsFrom C w (level C w h) n 0 j) (last h (end C w n) (bound C w up))) (sym z)
+          (subst (λ (b : Limit). allPairs (AllSound C P h) (pairsFrom C w (level C w h) n 0 k) b) (limit-end h n k up (omega arith)) d)
+
+  -- the bound below a position that was moved on
+  bound-mid : (q : Position) (up : List Position) (h : ℕ) → 1 ≤ q .index → bound C w (q ∷ up) ≡ limitAt C P w (suc h) (q .node .0) (q .index - 1 + 1) up
+  unfolding bound last
+  bound-mid q up h l = let z : q .index - 1 + 1 ≡ q .index = omega arith in rw z
+
+  -- a node is left
+  pub behind-out : (root h : ℕ) (p : Position) (up : List Position) → Behind C P w root h (p ∷ up) → (h ≡ 0) ⊎ (count C w (p .node .0) ≤ p .index) → Behind C P w root (suc h) up
+  unfolding Behind Above
+  behind-out root h p [] b e = tt
+  behind-out root h p (q ∷ up) b e =
+      let n = p .node .0 in
+      let a = b .above in
+      let g : AllSound C P (suc h) (level C w (suc h) n) (start C w n) (bound C w (q ∷ up)) = whole h n (p .index) (q ∷ up) (b .passed) (b .done) (b .within) e in
+      let g₂ : AllSound C P (suc h) (level C w (suc h) n) (start C w n) (limitAt C P w (suc h) (q .node .0) (q .index - 1 + 1) up) =
+      subst (λ (x : Limit). AllSound C P (suc h) (level C w (suc h) n) (start C w n) x) (bound-mid q up h (a .some)) g in
+      let g₃ = subst (λ (r : ℕ). AllSound C P (suc h) (level C w (suc h) n) r (limitAt C P w (suc h) (q .node .0) (q .index - 1 + 1) up)) (a .begins) g₂ in
+      let g₄ = subst (λ (m : ℕ). AllSound C P (suc h) (level C w (suc h) m) (row C w (q .node .0) (q .index - 1)) (limitAt C P w (suc h) (q .node .0) (q .index - 1 + 1) up)) (a .leads) g₃ in
+      let z : q .index - 1 + 1 ≡ q .index = omega (arith, a .some) in
+      record {
+        within = a .within;
+        passed = a .passed;
+        done = subst (λ (j : ℕ). Done C P w (suc h) (q .node .0) j up) z (done-more (suc h) (q .node .0) (q .index - 1) up (omega (arith, a .some, a .within)) (a .done) g₄);
+        above = a .above;
+      }
+
+  pub sound-level : (g c r : ℕ) (x : Limit) → passes false C g (nodeAt C w c) r x ≡ true → T (sound C g (level C w (suc g) c) r x)
+  unfolding passes level
+  sound-level g c r x s =
+      subst T (sym (sound-at (level C w g) C w g c r x)) (and-l (sound C g (nodeAt C w c) r x) true (holds (passes false C g (nodeAt C w c) r x) s))
+
+  begins-at : (g c r : ℕ) (x : Limit) → T (sound C g (level C w (suc g) c) r x) → start C w c ≡ r
+  unfolding level
+  begins-at g c r x t = soundly C g (level C w (suc g) c) r x t .begin
+
+  -- a child is entered
+  pub behind-in : (root g : ℕ) (p : Position) (up : List Position) → Behind C P w root (suc g) (p ∷ up) → p .index < count C w (p .node .0) → child C w (p .node .0) (p .index) < P
+      → passes false C g (nodeAt C w (child C w (p .node .0) (p .index))) (row C w (p .node .0) (p .index)) (bound C w (turned p ∷ up)) ≡ true
+      → Behind C P w root g (entered (child C w (p .node .0) (p .index)) ∷ turned p ∷ up)
+  unfolding Behind Above
+  behind-in root g p up b l i s =
+      let c = child C w (p .node .0) (p .index) in
+      let r = row C w (p .node .0) (p .index) in
+      let x = bound C w (turned p ∷ up) in
+      let t : T (sound C g (level C w (suc g) c) r x) = sound-level g c r x s in
+      let o : start C w c ≡ r = begins-at g c r x t in
+      let z : p .index + 1 - 1 ≡ p .index = omega arith in
+      record {
+        within = zero-le;
+        passed = record { inside = i; good = subst (λ (k : ℕ). T (sound C g (level C w (suc g) c) k x)) (sym o) t };
+        done = done-none g c (turned p ∷ up);
+        above = record {
+          some = omega arith;
+          within = omega arith;
+          leads = ap (child C w (p .node .0)) (sym z);
+          begins = o ∙ ap (row C w (p .node .0)) (sym z);
+          passed = b .passed;
+          done = subst (λ (j : ℕ). Done C P w (suc g) (p .node .0) j up) (sym z) (b .done);
+          above = b .above;
+        };
+      }
+
+-- a node that has no more children is a leaf, or all its entries are done
+pub no-more : (C : Shape) (w : List ℕ) (n i : ℕ) → hasChild C w n i ≡ false → (height C w n ≡ 0) ⊎ (count C w n ≤ i)
+unfolding hasChild
+no-more C w n i e =
+    by-test (ltb 0 (height C w n))
+    (λ u. by-test (ltb i (count C w n)) (λ v. absurd (false≢true (sym e ∙ rw (u, v)))) (λ v. inr (ltb-false i (count C w n) v)))
+    (λ u. inl (omega (arith, ltb-false 0 (height C w n) u)))
+
+-- The same in the loop's terms -----------------------------------------------------------------------------
+module _ (C : Shape) (P : ℕ) (w : List ℕ) (root : ℕ) where
+  fit : (h : ℕ) (st : List Position) → Behind C P w root h st → Behind C P w root (lowest C w st) st
+  unfolding Behind lowest
+  fit h [] b = tt
+  fit h (x ∷ st) b = subst (λ (k : ℕ). Behind C P w root k (x ∷ st)) (sym (tall C P w h (x .node .0) st (b .passed))) b
+
+  to-path : (h : ℕ) (st : List Position) (q : Path) → trail q ≡ st → Behind C P w root h st → BehindPath C P w root q
+  unfolding BehindPath
+  to-path h st q e b = subst (λ (s : List Position). Behind C P w root (lowest C w s) s) (sym e) (fit h st b)
+
+  pub start-behind : Passed C P w (height C w root) root [] → BehindPath C P w root (rooted root)
+  unfolding stack Behind Above
+  start-behind p = to-path (height C w root) (entered root ∷ []) (rooted root) refl (record { within = zero-le; passed = p; done = done-none C P w (height C w root) root []; above = refl })
+
+  module _ (p : Path) (z : 0 < p .depth) (B : BehindPath C P w root p) where
+    pub at-last : Behind C P w root (height C w (lastOf p .node .0)) (lastOf p ∷ above p)
+    unfolding BehindPath lowest
+    at-last = subst (λ (st : List Position). Behind C P w root (lowest C w st) st) (stack-pop (p .positions) (p .depth) z) B
+
+    pub path-out : hasChild C w (lastOf p .node .0) (lastOf p .index) ≡ false → BehindPath C P w root (popped p)
+    path-out e = to-path (suc (height C w (lastOf p .node .0))) (above p) (popped p) refl (behind-out C P w root (height C w (lastOf p .node .0)) (lastOf p) (above p) at-last (no-more C w (lastOf p .node .0) (lastOf p .index) e))
+
+    pub path-in : {b : Limit} {c : ℕ} {next : Limit} {first : ℕ} → b ≡ bound C w (above p) → Went C P w (lastOf p .node .0) (lastOf p .index) b c next first
+        → trail (enteredPath p c) ≡ entered c ∷ turned (lastOf p) ∷ above p → BehindPath C P w root (enteredPath p c)
+    path-in {b} {c} f W t =
+        let n = lastOf p .node .0 in
+        let i = lastOf p .index in
+        let g = height C w n - 1 in
+        let k = branch C w n i (W .has) in
+        let hi : height C w n ≡ suc g = omega (arith, k .0) in
+        let B₂ = subst (λ (k : ℕ). Behind C P w root k (lastOf p ∷ above p)) hi at-last in
+        let s : passes false C g (nodeAt C w (child C w n i)) (row C w n i) (bound C w (turned (lastOf p) ∷ above p)) ≡ true =
+        ap (passes false C g (nodeAt C w (child C w n i)) (row C w n i)) (bound-turned C w (lastOf p) (above p) ∙ ap (nextRow C w n i) (sym f)) ∙ W .good in
+        to-path g (entered (child C w n i) ∷ turned (lastOf p) ∷ above p) (enteredPath p c) (t ∙ ap (λ (x : ℕ). entered x ∷ turned (lastOf p) ∷ above p) (W .number))
+        (behind-in C P w root g (lastOf p) (above p) B₂ (k .1) (W .range) s)

@@ -1,0 +1,46 @@
+use lib.Seq.{length-take-le}
+use mathlib.Core.Path.{sym}
+use Rattle.script_calls.proofs.Performing.{releases}
+use borrow.Author.Needs.{needs}
+use Rattle.script_calls.proofs.release_step.Statement.{statement}
+use Rattle.script_calls.proofs.release_step.Tie as tie
+
+slice-relend-prefix-destroy : tie.Need-slice-relend-prefix-destroy
+slice-relend-prefix-destroy c = search needs
+
+slice-aggregate-destroy : tie.Need-slice-aggregate-destroy
+slice-aggregate-destroy c = sym (length-take-le (c .before .before .before .args .used) (c .before .before .before .args .s .now) (c .before .before .before .pre))
+
+slice-aggregate-destroy-2 : tie.Need-slice-aggregate-destroy-2
+slice-aggregate-destroy-2 c = search needs
+
+destroy-requires : tie.Need-destroy-requires
+destroy-requires c κs = search needs
+
+put-destroyed-requires : tie.Need-put-destroyed-requires
+put-destroyed-requires c κs = search needs
+
+same-length : tie.Need-same-length
+same-length c = search needs
+
+same-length-2 : tie.Need-same-length-2
+same-length-2 c = search needs
+
+returns : tie.Need-returns
+returns c =
+    let x = c .before .before .before .before .before .before .before .before .before .before .before .before .args in
+    let r = c .before .before .before .before .before .before .before .destroy .ensures in
+    releases (x .s .now) (x .out .now) (x .used) _ _ _ _ _ _ (r .0) (r .1 .0) (c .before .before .put-destroyed .ensures)
+
+pub release-step-spec : {M : Type 1} → statement M
+release-step-spec =
+    tie.close
+    (tie.spec
+    slice-relend-prefix-destroy
+    slice-aggregate-destroy
+    slice-aggregate-destroy-2
+    destroy-requires
+    put-destroyed-requires
+    same-length
+    same-length-2
+    returns)
