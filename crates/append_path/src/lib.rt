@@ -11,8 +11,8 @@ use model::id::NodeNo;
 use model::id::PageID;
 use model::id::RowID;
 use model::node::RowPageIndexNodeHeader;
-use node_read::layout::Layout;
 use node_pairs;
+use node_read::layout::Layout;
 use node_write::write;
 
 // A page, its first row and the row after its last.

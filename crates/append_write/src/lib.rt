@@ -14,9 +14,9 @@ use append_path::NewPage;
 use model::id::NodeNo;
 use model::id::RowID;
 use model::node::RowPageIndexNodeHeader;
-use node_read::layout::Layout;
 use node_copy;
 use node_pairs;
+use node_read::layout::Layout;
 use node_write::write;
 
 // The page becomes the last entry of the right leaf n.

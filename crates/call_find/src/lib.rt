@@ -11,17 +11,17 @@ ghost use Rattle.model.specs.Lookup.{findInTree, foundIn, tryFindRow};
 ghost use Rattle.model.specs.Refusals.{location};
 ghost use Rattle.node_read.specs.Layout.{Fits, shapeOf};
 ghost use Rattle.call_find.specs.Leaf.{IsLeaf};
-use tree_path::path;
-use tree_path::path::Reached;
 use model::answer::Refusal;
 use model::answer::RowLocation;
 use model::id::NodeNo;
 use model::id::RowID;
+use node_place;
 use node_read::header;
 use node_read::header::Opened;
 use node_read::layout::Layout;
-use node_place;
 use node_root;
+use tree_path::path;
+use tree_path::path::Reached;
 
 // In a leaf that was reached.
 fn find_in_leaf(l: Layout, s: &[u64], n: NodeNo, row: RowID) -> RowLocation

@@ -5,11 +5,11 @@ ghost use Rattle.model.specs.Words.{lent};
 ghost use Rattle.model.specs.Refusals.{nextLeaf};
 ghost use Rattle.model.specs.LeafWalk.{nextLeafOf};
 ghost use Rattle.model.specs.LeafWalk as W;
-use next_step;
 use model::answer::NextLeaf;
 use model::cursor::RowPageIndexMemCursor;
 use model::id::RowID;
 use model::node::PageEntry;
+use next_step;
 
 // Keeps a row; it cannot be refused.
 pub fn seek(c: &mut RowPageIndexMemCursor, row: RowID)

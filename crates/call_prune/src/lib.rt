@@ -12,7 +12,6 @@ ghost use Rattle.prune_list.specs.Named.{Ending};
 ghost use Rattle.prune_leaf.specs.Progress.{namedOf};
 ghost use Rattle.prune_cut.specs.Found.{InOpen, RootedIn, pruneIn, scannedIn};
 ghost use Rattle.node_read.specs.Layout.{shapeOf};
-use prune_edge;
 use model::answer::Pruned;
 use model::answer::Refusal;
 use model::id::RowID;
@@ -23,10 +22,11 @@ use node_root;
 use node_test;
 use node_test::Limit;
 use node_test::NodeTest;
+use prune_cut;
+use prune_edge;
+use prune_leaf::Named;
 use prune_list;
 use prune_list::Prefix;
-use prune_leaf::Named;
-use prune_cut;
 
 // What the list names goes, where it was accepted.
 fn prune_named(h: StoreHeader, s: &mut [u64], end: RowID, prefix: Prefix) -> Pruned

@@ -11,10 +11,10 @@ use model::answer::Destroyed;
 use model::answer::Refusal;
 use model::id::NodeNo;
 use model::id::RowID;
+use node_chain;
 use node_read::header;
 use node_read::header::Opened;
 use node_read::header::StoreHeader;
-use node_chain;
 use node_root;
 use node_write::write;
 

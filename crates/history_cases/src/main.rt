@@ -8,10 +8,7 @@
 // answers, stores or lists were wrong.
 
 use answer_numbers;
-use next_words;
-use next_words::WordStep;
 use call_release_empty;
-use next_step;
 use libc::STDOUT_FILENO;
 use model::answer::Checked;
 use model::answer::Created;
@@ -24,6 +21,9 @@ use model::answer::RowLocation;
 use model::cursor::RowPageIndexMemCursor;
 use model::id::PageID;
 use model::id::RowID;
+use next_step;
+use next_words;
+use next_words::WordStep;
 
 // What the ledger holds beside its book, and what was seen: last is the number of the last refusal or 0, calls has the
 // refused calls by number and from 14 on the accepted ones by kind.

@@ -9,11 +9,11 @@ ghost use Rattle.host.specs.Served.{append, check, create, destroy, dest
 use answer_words;
 use answers;
 use answers_read;
-use next_words;
 use call_release_empty;
 use host_cursor;
 use model::id::PageID;
 use model::id::RowID;
+use next_words;
 
 // A new store of so many nodes for capacity entries each, whose rows begin at start.
 #[no_mangle]

@@ -6,10 +6,10 @@ ghost use Rattle.model.specs.Words.{pick};
 ghost use Rattle.model.specs.Refusals.{nextLeaf};
 ghost use Rattle.host_cursor.specs.Cursors.{cursorAfter, cursorIn};
 use answer_words;
-use next_words;
 use model::answer::NextLeaf;
 use model::cursor::RowPageIndexMemCursor;
 use model::id::RowID;
+use next_words;
 
 // Word i, or another where there is none.
 fn word(l: &[u64], i: usize, other: u64) -> u64

@@ -94,7 +94,13 @@ pub fn put_destroyed(out: &mut [u8], at: usize, a: Destroyed) -> usize
     ensures { λ p. ⌜ Puts (now (out .entry)) at (answerLine releaseName (destroyed a)) (now (out .exit)) p ⌝ }
 {
     match a {
-        Destroyed::Done { nodes, pages } => script_text::put_line2(out, at, b"release", nodes, pages),
+        Destroyed::Done { nodes, pages } => script_text::put_line2(
+            out,
+            at,
+            b"release",
+            nodes,
+            pages,
+        ),
         Destroyed::Refused(r) => put_refusal(out, at, answer_numbers::number_of(r)),
     }
 }

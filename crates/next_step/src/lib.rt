@@ -8,9 +8,6 @@ ghost use Rattle.model.specs.LeafWalk.{given, seek};
 ghost use Rattle.node_read.specs.Layout.{Fits, shapeOf};
 ghost use Rattle.next_records.specs.Listing.{Readable};
 ghost use Rattle.next_step.specs.Steps.{Steps, gives, onList, stays};
-use tree_path::path;
-use tree_path::path::Reached;
-use next_records::LeafEntries;
 use model::answer::Leaf;
 use model::answer::NextLeaf;
 use model::answer::Refusal;
@@ -18,10 +15,13 @@ use model::cursor::RowPageIndexMemCursor;
 use model::id::NodeNo;
 use model::id::RowID;
 use model::node::PageEntry;
+use next_records::LeafEntries;
 use node_read::header;
 use node_read::header::Opened;
 use node_read::layout::Layout;
 use node_test::Limit;
+use tree_path::path;
+use tree_path::path::Reached;
 
 // What a step by value gives: the answer, the cursor afterwards, and the entries to give out.
 pub struct LeafStep {

@@ -8,10 +8,10 @@ ghost use Rattle.model.specs.LeafWalk as W;
 ghost use Rattle.model.specs.Refusals.{nextLeaf};
 ghost use Rattle.next_records.specs.Listing.{Readable, recordsOf};
 ghost use Rattle.next_words.specs.Written.{WordSteps, wordsOf};
-use next_step;
-use next_records::LeafEntries;
 use model::answer::NextLeaf;
 use model::cursor::RowPageIndexMemCursor;
+use next_records::LeafEntries;
+use next_step;
 
 // The answer, and the cursor afterwards.
 pub struct WordStep {

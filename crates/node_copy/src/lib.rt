@@ -6,8 +6,8 @@ ghost use Rattle.model.specs.Words.{copied, put};
 ghost use Rattle.model.specs.Prune.{moved};
 ghost use Rattle.node_read.specs.Layout.{Fits, shapeOf};
 use model::id::NodeNo;
-use node_read::layout::Layout;
 use node_pairs;
+use node_read::layout::Layout;
 use node_write::write;
 
 // Node to becomes a copy of node from, all its words.

@@ -315,7 +315,12 @@ fn prune_pages(s: &mut [u64], l: Ledger, ids: &[u64], tally: Tally) -> Tally {
         from: plus(l.from, k),
         to: l.to,
     };
-    match call_prune::prune_checkpoint_prefix(s, RowID(begin(l.from)), RowID(begin(rest.from)), ids) {
+    match call_prune::prune_checkpoint_prefix(
+        s,
+        RowID(begin(l.from)),
+        RowID(begin(rest.from)),
+        ids,
+    ) {
         Pruned::Refused(_) => {
             t.wrong = plus(t.wrong, 1);
             t

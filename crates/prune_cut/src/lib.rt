@@ -8,9 +8,6 @@ ghost use Rattle.node_chain.specs.Chain.{listed};
 ghost use Rattle.prune_boundary.specs.Trims.{trimsOf};
 ghost use Rattle.prune_cut.specs.Found.{AllGo, EdgedIn, RootedIn, SomeStay, cutAtIn, cutIn, resetIn};
 ghost use Rattle.prune_cut.specs.Writable.{Resettable, Writable, cutWords, resetWords};
-use prune_collapse;
-use prune_collapse::CopyTest;
-use prune_edge::Boundary;
 use model::answer::Pruned;
 use model::answer::Refusal;
 use model::answer::RowPagePrefixPrune;
@@ -21,8 +18,11 @@ use node_read::header;
 use node_read::header::StoreHeader;
 use node_read::layout::Layout;
 use node_write::write;
-use tree_free;
+use prune_collapse;
+use prune_collapse::CopyTest;
+use prune_edge::Boundary;
 use prune_write;
+use tree_free;
 
 // What goes is freed first, j nodes: the numbers of the children that go are lost when their node is trimmed. No freed node
 // is trimmed, copied or the root, so the words are those of 01's order.

@@ -13,9 +13,9 @@ ghost use Rattle.prune_write.specs.Nodes.{AllIn};
 use model::id::NodeNo;
 use model::id::RowID;
 use model::path::Path;
-use node_read::layout::Layout;
 use node_chain;
 use node_copy;
+use node_read::layout::Layout;
 use node_write::write;
 
 // Node n loses its first k entries; what is left starts at the end.

@@ -6,10 +6,10 @@ ghost use Rattle.model.specs.Refusals.{created};
 ghost use Rattle.script_records.specs.Records as R;
 ghost use Rattle.script_calls.specs.Calls.{createLength, ifAccepted, perform};
 ghost use Rattle.script_calls.specs.Steps.{Does, memory};
-use script_calls::Progress;
 use model::answer::Created;
 use model::id::RowID;
 use node_read::layout::Layout;
+use script_calls::Progress;
 
 // The words that a create gets, of so many.
 pub fn create_length(all: usize, capacity: u64, nodes: u64) -> usize

@@ -5,9 +5,9 @@ ghost use Prim.Native.Nat.{_≤_};
 ghost use lib.ListN.{length};
 use libc::STDERR_FILENO;
 use libc::STDOUT_FILENO;
+use script_input::name;
 use script_records::Head;
 use script_records::Record;
-use script_input::name;
 
 // A line with one, two, three numbers after the name of this kind: the place after it.
 fn put_call1(out: &mut [u8], kind: u64, a: u64) -> usize {

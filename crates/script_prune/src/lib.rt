@@ -6,8 +6,8 @@ ghost use Rattle.script_records.specs.Records as R;
 ghost use Rattle.script_records.specs.Read.{bodyWords};
 ghost use Rattle.script_calls.specs.Calls.{perform};
 ghost use Rattle.script_calls.specs.Steps.{Does, memory};
-use script_calls::Progress;
 use model::id::RowID;
+use script_calls::Progress;
 
 // The page ids stand in the body.
 pub fn prune_step(
@@ -24,7 +24,12 @@ pub fn prune_step(
 {
     let mut ids = [0u64; 512];
     let k = script_records::copy_ids(body, &mut ids);
-    let a = call_prune::prune_checkpoint_prefix(&mut s[..used], RowID(start), RowID(end), &ids[..k]);
+    let a = call_prune::prune_checkpoint_prefix(
+        &mut s[..used],
+        RowID(start),
+        RowID(end),
+        &ids[..k],
+    );
     let place = lines::put_pruned(out, at, a);
     Progress {
         used,

@@ -3,8 +3,8 @@
 
 ghost use Prim.Native.Nat.{_≤_};
 ghost use lib.ListN.{length};
-use script_calls::Progress;
 use libc::STDOUT_FILENO;
+use script_calls::Progress;
 use script_turn;
 
 // A record, its lines printed; or the end of the input, and the last line.

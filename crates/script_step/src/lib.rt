@@ -11,10 +11,10 @@ ghost use Rattle.script_records.specs.Read.{meant};
 ghost use Rattle.script_calls.specs.Calls.{perform};
 ghost use Rattle.script_calls.specs.Steps.{Does, memory};
 use script_calls::Progress;
-use script_records::Head;
-use script_records::Record;
 use script_create;
 use script_prune;
+use script_records::Head;
+use script_records::Record;
 use script_walk;
 
 // Whatever a record asks for, with its body.

@@ -10,9 +10,9 @@ ghost use Rattle.script_records.specs.Records as R;
 ghost use Rattle.script_calls.specs.Calls.{lentRecords, perform, walkLines};
 ghost use Rattle.script_calls.specs.Steps.{Does, memory};
 ghost use Rattle.script_walk.specs.Walked.{Walks};
-use script_calls::Progress;
 use model::cursor::RowPageIndexMemCursor;
 use model::id::RowID;
+use script_calls::Progress;
 
 // After one step of a walk: the cursor, the place after its line, and whether another follows.
 pub struct WalkStep {

@@ -1,17 +1,17 @@
 // The calls on a store that are lent its words, each with its lines.
 
+use call_append;
+use call_check;
 use call_create;
+use call_find;
+use call_prune;
 use call_release;
 use call_release_empty;
-use call_find;
-use call_check;
-use call_append;
 use lines;
 use model::answer::Created;
 use model::answer::Destroyed;
 use model::id::PageID;
 use model::id::RowID;
-use call_prune;
 use store_print;
 
 pub enum Call {

@@ -185,7 +185,12 @@ fn put_chain(out: &mut [u8], at: usize, s: &[u64]) -> usize {
             return script_text::put_line1(out, at, b"wrong: after the last free node stands", n);
         }
         if pool <= n {
-            return script_text::put_line1(out, at, b"wrong: so many free nodes are in the chain:", k);
+            return script_text::put_line1(
+                out,
+                at,
+                b"wrong: so many free nodes are in the chain:",
+                k,
+            );
         }
         if store_words::part(s, n, 0) != RowPageIndexNodeHeader::FREE_MARK {
             return script_text::put_line1(out, at, b"wrong: in the chain, not free: node", n);

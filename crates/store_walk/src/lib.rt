@@ -1,13 +1,13 @@
 // The leaf walk of the store program: the cursor and a list of records are lent by `&mut`.
 
 ghost use Prim.Native.Nat.{_≤_};
-use next_lent;
 use lines;
 use model::answer::NextLeaf;
 use model::cursor::RowPageIndexMemCursor;
 use model::id::PageID;
 use model::id::RowID;
 use model::node::PageEntry;
+use next_lent;
 use store_print;
 
 // The cursor after a step, the place after its lines, and whether it gave a leaf.

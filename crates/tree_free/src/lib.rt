@@ -10,8 +10,8 @@ ghost use Rattle.node_read.specs.Layout.{shapeOf};
 use model::id::NodeNo;
 use model::path::Path;
 use model::path::Position;
-use node_read::layout::Layout;
 use node_chain;
+use node_read::layout::Layout;
 use tree_turn::turn;
 use tree_turn::turn::Step;
 

@@ -23,12 +23,12 @@ use node_root;
 use node_test;
 use node_test::Limit;
 use node_test::NodeTest;
+use tree_limit;
 use tree_tally;
 use tree_tally::Counts;
 use tree_tally::Survey;
 use tree_turn::turn;
 use tree_turn::turn::Turn;
-use tree_limit;
 
 // The reading without ends and the one with ends, made in one walk.
 pub struct Surveys {
