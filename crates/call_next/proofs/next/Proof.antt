@@ -59,7 +59,7 @@ use Rattle.next_records.proofs.LeafEntries as L
 use Rattle.next_records.proofs.LeafEntries.Laws as L′
 use Rattle.next_records.proofs.copy_out as copy-out
 use Rattle.next_records.proofs.copy_out.Symbol as copy-out-def
-use Rattle.next_records.proofs.copy_out.Symbol.{name as #listing·copy-out}
+use Rattle.next_records.proofs.copy_out.Symbol.{name as #next_records·copy-out}
 use Rattle.next_records.proofs.copy_out.Met as copy-out-thm
 use Rattle.next_step.specs.Steps.{Steps}
 use Rattle.next_step.specs.declared.LeafStep.{LeafStep}
@@ -67,9 +67,9 @@ use Rattle.next_step.proofs.LeafStep as S
 use Rattle.next_step.proofs.LeafStep.Laws as S′
 use Rattle.next_step.proofs.step as step
 use Rattle.next_step.proofs.step.Symbol as step-def
-use Rattle.next_step.proofs.step.Symbol.{name as #leaf_step·step}
+use Rattle.next_step.proofs.step.Symbol.{name as #next_step·step}
 use Rattle.next_step.proofs.step.Met as step-thm
-use Rattle.call_next.proofs.next.Key.{name as #cursor·next}
+use Rattle.call_next.proofs.next.Key.{name as #call_next·next}
 use Rattle.call_next.proofs.next as next
 use Rattle.call_next.proofs.next.Statement as stated
 use Rattle.call_next.proofs.next.Code as code
@@ -188,7 +188,7 @@ module _ {M : Type 1} (𝓤 : URA M) (H : Heap 𝓤) (A : Atoms 𝓤) (W : Given
       nothing ! $ move ! (4 ∷ 0 ∷ []) $ join ! $ move ! (3 ∷ 0 ∷ []) $ join ! $
       use2 W (raw (CopyOut 𝓤 H A at-mem run .pre (to-copy k))) (qed W ((‵ (flft κ₂ q₂) ⊛ (‵ (flft κ₃ q₃) ⊛ ‵ ftrue)) ∷ ‵ (Given-to k) ∷ []) ∵ says ! (lies, room) $ frame ! $ done !) $ frame ! $ done !
 
-  module _ (C : Calls 𝓤 H) (Λ : Loops 𝓤 H) (fm : FmC 𝓤 H (W .laws) C) (known-step : Triple 𝓤 (C #leaf_step·step) (Step 𝓤 H A at-mem run)) (known-copy : Triple 𝓤 (C #listing·copy-out) (CopyOut 𝓤 H A at-mem run)) where
+  module _ (C : Calls 𝓤 H) (Λ : Loops 𝓤 H) (fm : FmC 𝓤 H (W .laws) C) (known-step : Triple 𝓤 (C #next_step·step) (Step 𝓤 H A at-mem run)) (known-copy : Triple 𝓤 (C #next_records·copy-out) (CopyOut 𝓤 H A at-mem run)) where
     walk : Is (ShrSlice (named 1) κ₂ u64) s (sv ∷ []) → Is (MutSlice (named 2) κ₃ E.the-row) out (ov ∷ []) → Room E.the-row (length zs)
         → ent 𝓤 (onEntry 𝓤 H A next.signature (κ₁, (κ₂, (κ₃, tt))) (q₁, (q₂, (q₃, tt))) x at) (WpFn 𝓤 H C Λ code.function (vptr b o ∷ sv ∷ ov ∷ []) Post)
     walk is-s is-out room =
@@ -247,7 +247,7 @@ module _ {M : Type 1} (𝓤 : URA M) (H : Heap 𝓤) (A : Atoms 𝓤) (W : Given
         unit-typed w e = subst (λ (u : Val). Holds (hasTy tyUnit u) × WT u) (sym (ap only e)) (tt, tt)
 
 module _ {M : Type 1} (𝓤 : URA M) (H : Heap 𝓤) (A : Atoms 𝓤) (W : Given 𝓤 H A) (at-mem : Memory → SProp 𝓤) (run : Routine → Fun 𝓤) where
-  next-walks : (C : Calls 𝓤 H) (Λ : Loops 𝓤 H) → FmC 𝓤 H (W .laws) C → Triple 𝓤 (C #leaf_step·step) (Step 𝓤 H A at-mem run) → Triple 𝓤 (C #listing·copy-out) (CopyOut 𝓤 H A at-mem run)
+  next-walks : (C : Calls 𝓤 H) (Λ : Loops 𝓤 H) → FmC 𝓤 H (W .laws) C → Triple 𝓤 (C #next_step·step) (Step 𝓤 H A at-mem run) → Triple 𝓤 (C #next_records·copy-out) (CopyOut 𝓤 H A at-mem run)
       → Walks 𝓤 H A next.ended stayed (WpFn 𝓤 H C Λ code.function) (next.clauses 𝓤 H A at-mem run)
   next-walks C Λ fm known-step known-copy = walked 𝓤 H A next.ended stayed (next.clauses 𝓤 H A at-mem run) (WpFn 𝓤 H C Λ code.function) (λ κs. (ptr-vals, (slice-vals, (slice-vals, tt))))
       (λ κs. (mut-tells (named 0) (κs .0) T.the-row, (shr-slice-tells (named 1) (κs .1 .0) u64, (mut-slice-tells (named 2) (κs .1 .1 .0) E.the-row, tt))))
@@ -257,7 +257,7 @@ module _ {M : Type 1} (𝓤 : URA M) (H : Heap 𝓤) (A : Atoms 𝓤) (W : Given
   goes = (goes-ref 𝓤 H A W 3 0 tt (plain (λ _. T.the-row)), (goes-none-slice 𝓤 H A W 3 (1 ∷ []) tt (plain (λ _. u64)) yes, (goes-gave-slice 𝓤 H A W 3 2 tt (plain (λ _. E.the-row)), tt)))
 
 next-meets : {M : Type 1} (𝓤 : URA M) (H : Heap 𝓤) (A : Atoms 𝓤) (W : Given 𝓤 H A) (at-mem : Memory → SProp 𝓤) (run : Routine → Fun 𝓤) (𝓣 : Tables 𝓤 H)
-    → Triple 𝓤 (𝓣 .C #leaf_step·step) (Step 𝓤 H A at-mem run) → Triple 𝓤 (𝓣 .C #listing·copy-out) (CopyOut 𝓤 H A at-mem run)
+    → Triple 𝓤 (𝓣 .C #next_step·step) (Step 𝓤 H A at-mem run) → Triple 𝓤 (𝓣 .C #next_records·copy-out) (CopyOut 𝓤 H A at-mem run)
     → Meets 𝓤 H A next.signature (WpFn 𝓤 H (𝓣 .C) (𝓣 .Λ) code.function) (next.spec 𝓤 H A at-mem run)
 next-meets 𝓤 H A W at-mem run 𝓣 known-step known-copy = walk-meets 𝓤 H A next.ended stayed W (goes 𝓤 H A W at-mem run) (next.clauses 𝓤 H A at-mem run) (WpFn 𝓤 H (𝓣 .C) (𝓣 .Λ) code.function) (WpFn-mono 𝓤 H (W .laws) 𝓣 code.function)
     (next-walks 𝓤 H A W at-mem run (𝓣 .C) (𝓣 .Λ) (fmOf 𝓤 H (W .laws) 𝓣) known-step known-copy)
@@ -266,7 +266,7 @@ pub next-spec : {M : Type 1} → stated.statement M
 unfolding code.routine tablesOf
 next-spec 𝓤 H 𝓜 𝓖 𝓡 =
     entered 𝓤 H (tripleOf 𝓤 H (𝓖 .A) next.signature (next.spec 𝓤 H (𝓖 .A) (𝓜 .mem) (𝓡 .run)))
-    (tables 𝓤 H 𝓜 𝓡 code.env .C) (tables 𝓤 H 𝓜 𝓡 code.env .Λ) #cursor·next code.function (code.unfolded 𝓤 H 𝓜 𝓡)
+    (tables 𝓤 H 𝓜 𝓡 code.env .C) (tables 𝓤 H 𝓜 𝓡 code.env .Λ) #call_next·next code.function (code.unfolded 𝓤 H 𝓜 𝓡)
     (next-meets 𝓤 H (𝓖 .A) (givenOf 𝓤 H 𝓜 𝓖) (𝓜 .mem) (𝓡 .run) (tablesOf 𝓤 H 𝓜 (tables 𝓤 H 𝓜 𝓡 code.env))
-    (cited 𝓤 H (Step 𝓤 H (𝓖 .A) (𝓜 .mem) (𝓡 .run)) 𝓜 𝓡 code.env #leaf_step·step step-def.routine code.calls-leaf-step·step (step-thm.met 𝓤 H 𝓜 𝓖 𝓡))
-    (cited 𝓤 H (CopyOut 𝓤 H (𝓖 .A) (𝓜 .mem) (𝓡 .run)) 𝓜 𝓡 code.env #listing·copy-out copy-out-def.routine code.calls-listing·copy-out (copy-out-thm.met 𝓤 H 𝓜 𝓖 𝓡)))
+    (cited 𝓤 H (Step 𝓤 H (𝓖 .A) (𝓜 .mem) (𝓡 .run)) 𝓜 𝓡 code.env #next_step·step step-def.routine code.calls-next-step·step (step-thm.met 𝓤 H 𝓜 𝓖 𝓡))
+    (cited 𝓤 H (CopyOut 𝓤 H (𝓖 .A) (𝓜 .mem) (𝓡 .run)) 𝓜 𝓡 code.env #next_records·copy-out copy-out-def.routine code.calls-next-records·copy-out (copy-out-thm.met 𝓤 H 𝓜 𝓖 𝓡)))

@@ -44,9 +44,9 @@ use Rattle.model.proofs.cursor.RowPageIndexMemCursor as T
 use Rattle.model.proofs.cursor.RowPageIndexMemCursor.Laws as T′
 use Rattle.next_step.proofs.sought as sought
 use Rattle.next_step.proofs.sought.Symbol as sought-def
-use Rattle.next_step.proofs.sought.Symbol.{name as #leaf_step·sought}
+use Rattle.next_step.proofs.sought.Symbol.{name as #next_step·sought}
 use Rattle.next_step.proofs.sought.Met as sought-thm
-use Rattle.call_next.proofs.seek.Key.{name as #cursor·seek}
+use Rattle.call_next.proofs.seek.Key.{name as #call_next·seek}
 use Rattle.call_next.proofs.seek as seek
 use Rattle.call_next.proofs.seek.Statement as stated
 use Rattle.call_next.proofs.seek.Code as code
@@ -91,7 +91,7 @@ module _ {M : Type 1} (𝓤 : URA M) (H : Heap 𝓤) (A : Atoms 𝓤) (W : Given
   goes-sought : ent 𝓤 (sem 𝓤 H A (R.the-row .own n (row-vals n))) (Sought 𝓤 H A at-mem run .pre to-sought)
   goes-sought = qed W (‵ (R.the-row .own n (row-vals n)) ∷ []) ∵ nothing ! $ move ! (1 ∷ 0 ∷ []) $ join ! $ nothing ! $ join ! $ frame ! $ done !
 
-  module _ (C : Calls 𝓤 H) (Λ : Loops 𝓤 H) (fm : FmC 𝓤 H (W .laws) C) (known : Triple 𝓤 (C #leaf_step·sought) (Sought 𝓤 H A at-mem run)) where
+  module _ (C : Calls 𝓤 H) (Λ : Loops 𝓤 H) (fm : FmC 𝓤 H (W .laws) C) (known : Triple 𝓤 (C #next_step·sought) (Sought 𝓤 H A at-mem run)) where
     walk : ent 𝓤 (onEntry 𝓤 H A seek.signature (κ, tt) (q, tt) x at) (WpFn 𝓤 H C Λ code.function (vptr b o ∷ LL.val R.the-type R′.the-laws n ∷ []) Post)
     walk =
         qed W ((‵ (flft κ q) ⊛ ‵ ftrue) ∷ ‵ (owns (MutRef (named 0) κ T.the-row ∷ R.the-row ∷ []) x at) ∷ []) ∵ split ! $ move ! (2 ∷ []) $ fsplit ! $ move ! (1 ∷ []) $ fsplit ! $
@@ -117,7 +117,7 @@ module _ {M : Type 1} (𝓤 : URA M) (H : Heap 𝓤) (A : Atoms 𝓤) (W : Given
         keep ! (0 ∷ 1 ∷ 2 ∷ []) $ by ! (exits r e))))))))))
 
 module _ {M : Type 1} (𝓤 : URA M) (H : Heap 𝓤) (A : Atoms 𝓤) (W : Given 𝓤 H A) (at-mem : Memory → SProp 𝓤) (run : Routine → Fun 𝓤) where
-  seek-walks : (C : Calls 𝓤 H) (Λ : Loops 𝓤 H) → FmC 𝓤 H (W .laws) C → Triple 𝓤 (C #leaf_step·sought) (Sought 𝓤 H A at-mem run)
+  seek-walks : (C : Calls 𝓤 H) (Λ : Loops 𝓤 H) → FmC 𝓤 H (W .laws) C → Triple 𝓤 (C #next_step·sought) (Sought 𝓤 H A at-mem run)
       → Walks 𝓤 H A seek.ended stayed (WpFn 𝓤 H C Λ code.function) (seek.clauses 𝓤 H A at-mem run)
   seek-walks C Λ fm known = walked 𝓤 H A seek.ended stayed (seek.clauses 𝓤 H A at-mem run) (WpFn 𝓤 H C Λ code.function) (λ κs. (ptr-vals, (row-vals, tt))) (λ κs. (mut-tells (named 0) (κs .0) T.the-row, (LL.tells R.the-type R′.the-laws, tt)))
       (λ κs qs bounds a _ are. via 𝓤 _ (fst∗ 𝓤 _ (emp 𝓤)) (walk 𝓤 H A W at-mem run (κs .0) (qs .0) (a .0 .ptr .0) (a .0 .ptr .1) (a .0 .name) (a .0 .now) (a .1 .0) (are .1 .0) C Λ fm known))
@@ -126,7 +126,7 @@ module _ {M : Type 1} (𝓤 : URA M) (H : Heap 𝓤) (A : Atoms 𝓤) (W : Given
   goes = (goes-ref 𝓤 H A W 1 0 tt (plain (λ _. T.the-row)), (goes-none 𝓤 H A W 1 (λ _. R.the-row) yes (λ κs x f. refl), tt))
 
 seek-meets : {M : Type 1} (𝓤 : URA M) (H : Heap 𝓤) (A : Atoms 𝓤) (W : Given 𝓤 H A) (at-mem : Memory → SProp 𝓤) (run : Routine → Fun 𝓤) (𝓣 : Tables 𝓤 H)
-    → Triple 𝓤 (𝓣 .C #leaf_step·sought) (Sought 𝓤 H A at-mem run)
+    → Triple 𝓤 (𝓣 .C #next_step·sought) (Sought 𝓤 H A at-mem run)
     → Meets 𝓤 H A seek.signature (WpFn 𝓤 H (𝓣 .C) (𝓣 .Λ) code.function) (seek.spec 𝓤 H A at-mem run)
 seek-meets 𝓤 H A W at-mem run 𝓣 known = walk-meets 𝓤 H A seek.ended stayed W (goes 𝓤 H A W at-mem run) (seek.clauses 𝓤 H A at-mem run) (WpFn 𝓤 H (𝓣 .C) (𝓣 .Λ) code.function) (WpFn-mono 𝓤 H (W .laws) 𝓣 code.function) (seek-walks 𝓤 H A W at-mem run (𝓣 .C) (𝓣 .Λ) (fmOf 𝓤 H (W .laws) 𝓣) known)
 
@@ -134,6 +134,6 @@ pub seek-spec : {M : Type 1} → stated.statement M
 unfolding code.routine tablesOf
 seek-spec 𝓤 H 𝓜 𝓖 𝓡 =
     entered 𝓤 H (tripleOf 𝓤 H (𝓖 .A) seek.signature (seek.spec 𝓤 H (𝓖 .A) (𝓜 .mem) (𝓡 .run)))
-    (tables 𝓤 H 𝓜 𝓡 code.env .C) (tables 𝓤 H 𝓜 𝓡 code.env .Λ) #cursor·seek code.function (code.unfolded 𝓤 H 𝓜 𝓡)
+    (tables 𝓤 H 𝓜 𝓡 code.env .C) (tables 𝓤 H 𝓜 𝓡 code.env .Λ) #call_next·seek code.function (code.unfolded 𝓤 H 𝓜 𝓡)
     (seek-meets 𝓤 H (𝓖 .A) (givenOf 𝓤 H 𝓜 𝓖) (𝓜 .mem) (𝓡 .run) (tablesOf 𝓤 H 𝓜 (tables 𝓤 H 𝓜 𝓡 code.env))
-    (cited 𝓤 H (Sought 𝓤 H (𝓖 .A) (𝓜 .mem) (𝓡 .run)) 𝓜 𝓡 code.env #leaf_step·sought sought-def.routine code.calls-leaf-step·sought (sought-thm.met 𝓤 H 𝓜 𝓖 𝓡)))
+    (cited 𝓤 H (Sought 𝓤 H (𝓖 .A) (𝓜 .mem) (𝓡 .run)) 𝓜 𝓡 code.env #next_step·sought sought-def.routine code.calls-next-step·sought (sought-thm.met 𝓤 H 𝓜 𝓖 𝓡)))

@@ -59,7 +59,7 @@ use Rattle.model.proofs.answer.NextLeaf as F
 use Rattle.model.proofs.answer.NextLeaf.Laws as F′
 use Rattle.call_next.proofs.next as callee
 use Rattle.call_next.proofs.next.Symbol as callee-def
-use Rattle.call_next.proofs.next.Symbol.{name as #cursor·next}
+use Rattle.call_next.proofs.next.Symbol.{name as #call_next·next}
 use Rattle.call_next.proofs.next.Met as callee-thm
 use Rattle.next_lent.specs.declared.LentStep.{LentStep}
 use Rattle.next_lent.proofs.LentStep as S
@@ -168,7 +168,7 @@ module _ {M : Type 1} (𝓤 : URA M) (H : Heap 𝓤) (A : Atoms 𝓤) (W : Given
         let said : SProp 𝓤 = fact 𝓤 ((nextLeaf r ≡ nextLeafOf lent (now s) h (take k xs) .answer) × ((ws .0 ≡ nextLeafOf lent (now s) h (take k xs) .cursor) × (ws .1 .1 .0 ≡ nextLeafOf lent (now s) h (take k xs) .list))) in
         via 𝓤 (sem 𝓤 H A (Last ws)) (fst∗ 𝓤 (sem 𝓤 H A (Last ws)) said) (exI 𝓤 (λ us. sem 𝓤 H A (Last us)) ws))
 
-  module _ (C : Calls 𝓤 H) (Λ : Loops 𝓤 H) (fm : FmC 𝓤 H (W .laws) C) (known : Triple 𝓤 (C #cursor·next) (Next 𝓤 H A at-mem run)) where
+  module _ (C : Calls 𝓤 H) (Λ : Loops 𝓤 H) (fm : FmC 𝓤 H (W .laws) C) (known : Triple 𝓤 (C #call_next·next) (Next 𝓤 H A at-mem run)) where
     walk : Is (ShrSlice (named 0) κ u64) s (sv ∷ []) → Is T.the-row h (val h ∷ []) → Is Records xs (list-val xs ∷ []) → Is usize k (vint w64 k ∷ []) → k ≤ 4094
         → ent 𝓤 (onEntry 𝓤 H A next-on.signature (κ, tt) (q, tt) x at) (WpFn 𝓤 H C Λ code.function (sv ∷ val h ∷ list-val xs ∷ vint w64 k ∷ []) Post)
     walk is-s is-h is-xs is-k le =
@@ -222,7 +222,7 @@ module _ {M : Type 1} (𝓤 : URA M) (H : Heap 𝓤) (A : Atoms 𝓤) (W : Given
         keep ! (0 ∷ []) $ by ! (exits (step-of r (ws .0) (ws .1 .1 .0 ++ drop k xs)) (is-step r (ws .0) (ws .1 .1 .0 ++ drop k xs) v t u is-r is-t is-u)))))))))))))))))))))))))))
 
 module _ {M : Type 1} (𝓤 : URA M) (H : Heap 𝓤) (A : Atoms 𝓤) (W : Given 𝓤 H A) (at-mem : Memory → SProp 𝓤) (run : Routine → Fun 𝓤) where
-  next-on-walks : (C : Calls 𝓤 H) (Λ : Loops 𝓤 H) → FmC 𝓤 H (W .laws) C → Triple 𝓤 (C #cursor·next) (Next 𝓤 H A at-mem run) → Walks 𝓤 H A next-on.ended stayed (WpFn 𝓤 H C Λ code.function) (next-on.clauses 𝓤 H A at-mem run)
+  next-on-walks : (C : Calls 𝓤 H) (Λ : Loops 𝓤 H) → FmC 𝓤 H (W .laws) C → Triple 𝓤 (C #call_next·next) (Next 𝓤 H A at-mem run) → Walks 𝓤 H A next-on.ended stayed (WpFn 𝓤 H C Λ code.function) (next-on.clauses 𝓤 H A at-mem run)
   next-on-walks C Λ fm known = walked 𝓤 H A next-on.ended stayed (next-on.clauses 𝓤 H A at-mem run) (WpFn 𝓤 H C Λ code.function) (λ κs. (slice-vals, (LL.vals T.the-type T′.the-laws, (list-vals, (uint-vals w64, tt)))))
       (λ κs. (shr-slice-tells (named 0) (κs .0) u64, (LL.tells T.the-type T′.the-laws, (lists-tell, (uint-tells w64, tt)))))
       (λ κs qs bounds a _ are. needs 𝓤 (a .1 .1 .1 .0 ≤ 4094) _ (walk 𝓤 H A W at-mem run (κs .0) (qs .0) (a .0) (a .1 .0) (a .1 .1 .0) (a .1 .1 .1 .0) C Λ fm known (are .0) (are .1 .0) (are .1 .1 .0) (are .1 .1 .1 .0)))
@@ -237,7 +237,7 @@ module _ {M : Type 1} (𝓤 : URA M) (H : Heap 𝓤) (A : Atoms 𝓤) (W : Given
   )
 
 next-on-meets : {M : Type 1} (𝓤 : URA M) (H : Heap 𝓤) (A : Atoms 𝓤) (W : Given 𝓤 H A) (at-mem : Memory → SProp 𝓤) (run : Routine → Fun 𝓤) (𝓣 : Tables 𝓤 H)
-    → Triple 𝓤 (𝓣 .C #cursor·next) (Next 𝓤 H A at-mem run) → Meets 𝓤 H A next-on.signature (WpFn 𝓤 H (𝓣 .C) (𝓣 .Λ) code.function) (next-on.spec 𝓤 H A at-mem run)
+    → Triple 𝓤 (𝓣 .C #call_next·next) (Next 𝓤 H A at-mem run) → Meets 𝓤 H A next-on.signature (WpFn 𝓤 H (𝓣 .C) (𝓣 .Λ) code.function) (next-on.spec 𝓤 H A at-mem run)
 next-on-meets 𝓤 H A W at-mem run 𝓣 known = walk-meets 𝓤 H A next-on.ended stayed W (goes 𝓤 H A W at-mem run) (next-on.clauses 𝓤 H A at-mem run) (WpFn 𝓤 H (𝓣 .C) (𝓣 .Λ) code.function) (WpFn-mono 𝓤 H (W .laws) 𝓣 code.function) (next-on-walks 𝓤 H A W at-mem run (𝓣 .C) (𝓣 .Λ) (fmOf 𝓤 H (W .laws) 𝓣) known)
 
 pub next-on-spec : {M : Type 1} → stated.statement M
@@ -246,4 +246,4 @@ next-on-spec 𝓤 H 𝓜 𝓖 𝓡 =
     entered 𝓤 H (tripleOf 𝓤 H (𝓖 .A) next-on.signature (next-on.spec 𝓤 H (𝓖 .A) (𝓜 .mem) (𝓡 .run)))
     (tables 𝓤 H 𝓜 𝓡 code.env .C) (tables 𝓤 H 𝓜 𝓡 code.env .Λ) #next-on code.function (code.unfolded 𝓤 H 𝓜 𝓡)
     (next-on-meets 𝓤 H (𝓖 .A) (givenOf 𝓤 H 𝓜 𝓖) (𝓜 .mem) (𝓡 .run) (tablesOf 𝓤 H 𝓜 (tables 𝓤 H 𝓜 𝓡 code.env))
-    (cited 𝓤 H (Next 𝓤 H (𝓖 .A) (𝓜 .mem) (𝓡 .run)) 𝓜 𝓡 code.env #cursor·next callee-def.routine code.calls-cursor·next (callee-thm.met 𝓤 H 𝓜 𝓖 𝓡)))
+    (cited 𝓤 H (Next 𝓤 H (𝓖 .A) (𝓜 .mem) (𝓡 .run)) 𝓜 𝓡 code.env #call_next·next callee-def.routine code.calls-call-next·next (callee-thm.met 𝓤 H 𝓜 𝓖 𝓡)))

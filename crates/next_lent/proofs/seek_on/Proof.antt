@@ -45,7 +45,7 @@ use Rattle.model.proofs.cursor.RowPageIndexMemCursor as T
 use Rattle.model.proofs.cursor.RowPageIndexMemCursor.Laws as T′
 use Rattle.call_next.proofs.seek as callee
 use Rattle.call_next.proofs.seek.Symbol as callee-def
-use Rattle.call_next.proofs.seek.Symbol.{name as #cursor·seek}
+use Rattle.call_next.proofs.seek.Symbol.{name as #call_next·seek}
 use Rattle.call_next.proofs.seek.Met as callee-thm
 use Rattle.next_lent.proofs.Lending.{unit-typed, lends, back}
 use Rattle.next_lent.proofs.seek_on.Key.{name as #seek-on}
@@ -101,7 +101,7 @@ module _ {M : Type 1} (𝓤 : URA M) (H : Heap 𝓤) (A : Atoms 𝓤) (W : Given
         fact-use 𝓤 (ws .0 ≡ seeking (n .0)) (snd∗ 𝓤 L E) (λ e.
         subst (λ (w : RowPageIndexMemCursor). ent 𝓤 (sep 𝓤 L E) (A .res γ (T.the-row .coded .code w))) e (via 𝓤 L (fst∗ 𝓤 L E) (fst∗ 𝓤 (A .res γ (T.the-row .coded .code (ws .0))) (sep 𝓤 (emp 𝓤) (emp 𝓤))))))
 
-  module _ (C : Calls 𝓤 H) (Λ : Loops 𝓤 H) (fm : FmC 𝓤 H (W .laws) C) (known : Triple 𝓤 (C #cursor·seek) (Seek 𝓤 H A at-mem run)) where
+  module _ (C : Calls 𝓤 H) (Λ : Loops 𝓤 H) (fm : FmC 𝓤 H (W .laws) C) (known : Triple 𝓤 (C #call_next·seek) (Seek 𝓤 H A at-mem run)) where
     walk : ent 𝓤 (onEntry 𝓤 H A seek-on.signature tt tt (h, (n, tt)) at) (WpFn 𝓤 H C Λ code.function (val h ∷ row-val n ∷ []) Post)
     walk =
         qed W (‵ ftrue ∷ ‵ (owns (T.the-row ∷ R.the-row ∷ []) (h, (n, tt)) at) ∷ []) ∵ keep ! [] $ enter ! C Λ code.function (val h ∷ row-val n ∷ []) _ $
@@ -128,7 +128,7 @@ module _ {M : Type 1} (𝓤 : URA M) (H : Heap 𝓤) (A : Atoms 𝓤) (W : Given
         keep ! [] $ by ! (exits u is))))))))))))))
 
 module _ {M : Type 1} (𝓤 : URA M) (H : Heap 𝓤) (A : Atoms 𝓤) (W : Given 𝓤 H A) (at-mem : Memory → SProp 𝓤) (run : Routine → Fun 𝓤) where
-  seek-on-walks : (C : Calls 𝓤 H) (Λ : Loops 𝓤 H) → FmC 𝓤 H (W .laws) C → Triple 𝓤 (C #cursor·seek) (Seek 𝓤 H A at-mem run) → Walks 𝓤 H A seek-on.ended stayed (WpFn 𝓤 H C Λ code.function) (seek-on.clauses 𝓤 H A at-mem run)
+  seek-on-walks : (C : Calls 𝓤 H) (Λ : Loops 𝓤 H) → FmC 𝓤 H (W .laws) C → Triple 𝓤 (C #call_next·seek) (Seek 𝓤 H A at-mem run) → Walks 𝓤 H A seek-on.ended stayed (WpFn 𝓤 H C Λ code.function) (seek-on.clauses 𝓤 H A at-mem run)
   seek-on-walks C Λ fm known = walked 𝓤 H A seek-on.ended stayed (seek-on.clauses 𝓤 H A at-mem run) (WpFn 𝓤 H C Λ code.function) (λ κs. (LL.vals T.the-type T′.the-laws, (LL.vals R.the-type R′.the-laws, tt))) (λ κs. (LL.tells T.the-type T′.the-laws, (LL.tells R.the-type R′.the-laws, tt)))
       (λ κs qs bounds a _ are. via 𝓤 _ (fst∗ 𝓤 _ (emp 𝓤)) (walk 𝓤 H A W at-mem run (a .0) (a .1 .0) (are .0) (are .1 .0) C Λ fm known))
 
@@ -136,7 +136,7 @@ module _ {M : Type 1} (𝓤 : URA M) (H : Heap 𝓤) (A : Atoms 𝓤) (W : Given
   goes = (goes-dropped 𝓤 H A W 0 (plain (λ _. T.the-row)) yes (λ κs x f. refl), (goes-dropped 𝓤 H A W 0 (plain (λ _. R.the-row)) yes (λ κs x f. refl), tt))
 
 seek-on-meets : {M : Type 1} (𝓤 : URA M) (H : Heap 𝓤) (A : Atoms 𝓤) (W : Given 𝓤 H A) (at-mem : Memory → SProp 𝓤) (run : Routine → Fun 𝓤) (𝓣 : Tables 𝓤 H)
-    → Triple 𝓤 (𝓣 .C #cursor·seek) (Seek 𝓤 H A at-mem run) → Meets 𝓤 H A seek-on.signature (WpFn 𝓤 H (𝓣 .C) (𝓣 .Λ) code.function) (seek-on.spec 𝓤 H A at-mem run)
+    → Triple 𝓤 (𝓣 .C #call_next·seek) (Seek 𝓤 H A at-mem run) → Meets 𝓤 H A seek-on.signature (WpFn 𝓤 H (𝓣 .C) (𝓣 .Λ) code.function) (seek-on.spec 𝓤 H A at-mem run)
 seek-on-meets 𝓤 H A W at-mem run 𝓣 known = walk-meets 𝓤 H A seek-on.ended stayed W (goes 𝓤 H A W at-mem run) (seek-on.clauses 𝓤 H A at-mem run) (WpFn 𝓤 H (𝓣 .C) (𝓣 .Λ) code.function) (WpFn-mono 𝓤 H (W .laws) 𝓣 code.function) (seek-on-walks 𝓤 H A W at-mem run (𝓣 .C) (𝓣 .Λ) (fmOf 𝓤 H (W .laws) 𝓣) known)
 
 pub seek-on-spec : {M : Type 1} → stated.statement M
@@ -145,4 +145,4 @@ seek-on-spec 𝓤 H 𝓜 𝓖 𝓡 =
     entered 𝓤 H (tripleOf 𝓤 H (𝓖 .A) seek-on.signature (seek-on.spec 𝓤 H (𝓖 .A) (𝓜 .mem) (𝓡 .run)))
     (tables 𝓤 H 𝓜 𝓡 code.env .C) (tables 𝓤 H 𝓜 𝓡 code.env .Λ) #seek-on code.function (code.unfolded 𝓤 H 𝓜 𝓡)
     (seek-on-meets 𝓤 H (𝓖 .A) (givenOf 𝓤 H 𝓜 𝓖) (𝓜 .mem) (𝓡 .run) (tablesOf 𝓤 H 𝓜 (tables 𝓤 H 𝓜 𝓡 code.env))
-    (cited 𝓤 H (Seek 𝓤 H (𝓖 .A) (𝓜 .mem) (𝓡 .run)) 𝓜 𝓡 code.env #cursor·seek callee-def.routine code.calls-cursor·seek (callee-thm.met 𝓤 H 𝓜 𝓖 𝓡)))
+    (cited 𝓤 H (Seek 𝓤 H (𝓖 .A) (𝓜 .mem) (𝓡 .run)) 𝓜 𝓡 code.env #call_next·seek callee-def.routine code.calls-call-next·seek (callee-thm.met 𝓤 H 𝓜 𝓖 𝓡)))

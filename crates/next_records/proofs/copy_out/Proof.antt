@@ -63,9 +63,9 @@ use Rattle.next_records.proofs.LeafEntries.Laws as L′
 use Rattle.next_records.proofs.Filling.{upto, none, more, length-upto}
 use Rattle.next_records.proofs.entry_at as entry-at
 use Rattle.next_records.proofs.entry_at.Symbol as entry-at-def
-use Rattle.next_records.proofs.entry_at.Symbol.{name as #listing·entry-at}
+use Rattle.next_records.proofs.entry_at.Symbol.{name as #next_records·entry-at}
 use Rattle.next_records.proofs.entry_at.Met as entry-at-thm
-use Rattle.next_records.proofs.copy_out.Key.{name as #listing·copy-out}
+use Rattle.next_records.proofs.copy_out.Key.{name as #next_records·copy-out}
 use Rattle.next_records.proofs.copy_out as copy-out
 use Rattle.next_records.proofs.copy_out.Statement as stated
 use Rattle.next_records.proofs.copy_out.Code as code
@@ -177,7 +177,7 @@ module _ {M : Type 1} (𝓤 : URA M) (H : Heap 𝓤) (A : Atoms 𝓤) (W : Given
   same-length : (u : Upto) → length (u .ys) ≡ length zs
   same-length u = ap length (u .is) ∙ length-upto (shapeOf (g .layout)) l (g .leaf .0) zs (u .i)
 
-  module _ (𝓣 : Tables 𝓤 H) (known : Triple 𝓤 (𝓣 .C #listing·entry-at) (EntryAt 𝓤 H A at-mem run)) (l₀ l₁ l₂ l₃ l₄ l₅ l₆ l₇ l₈ : ℕ) where
+  module _ (𝓣 : Tables 𝓤 H) (known : Triple 𝓤 (𝓣 .C #next_records·entry-at) (EntryAt 𝓤 H A at-mem run)) (l₀ l₁ l₂ l₃ l₄ l₅ l₆ l₇ l₈ : ℕ) where
     abbrev C : Calls 𝓤 H
     C = 𝓣 .C
 
@@ -272,7 +272,7 @@ module _ {M : Type 1} (𝓤 : URA M) (H : Heap 𝓤) (A : Atoms 𝓤) (W : Given
     looped : Sq W (At begun) (runs C Λ En piece.t-2 (atRet En Post))
     looped = first ! $ blocks ! $ loops ! 𝓣 Nearer Nearer-wf At turns begun
 
-  walk : (𝓣 : Tables 𝓤 H) → Triple 𝓤 (𝓣 .C #listing·entry-at) (EntryAt 𝓤 H A at-mem run) → Is (MutSlice (named 1) κ₂ E.the-row) (out zs) (ov ∷ [])
+  walk : (𝓣 : Tables 𝓤 H) → Triple 𝓤 (𝓣 .C #next_records·entry-at) (EntryAt 𝓤 H A at-mem run) → Is (MutSlice (named 1) κ₂ E.the-row) (out zs) (ov ∷ [])
       → ent 𝓤 (onEntry 𝓤 H A copy-out.signature (κ₁, (κ₂, tt)) (q₁, (q₂, tt)) x at) (WpFn 𝓤 H (𝓣 .C) (𝓣 .Λ) code.function (sv ∷ ov ∷ LL.val L.the-type L′.the-laws g ∷ []) Post)
   walk 𝓣 known is-out =
       qed W ((‵ (flft κ₁ q₁) ⊛ (‵ (flft κ₂ q₂) ⊛ ‵ ftrue)) ∷ ‵ (owns (ShrSlice (named 0) κ₁ u64 ∷ MutSlice (named 1) κ₂ E.the-row ∷ L.the-row ∷ []) x at) ∷ []) ∵
@@ -285,7 +285,7 @@ module _ {M : Type 1} (𝓤 : URA M) (H : Heap 𝓤) (A : Atoms 𝓤) (W : Given
       looped 𝓣 known l₀ l₁ l₂ l₃ l₄ l₅ l₆ l₇ l₈)))))))))
 
 module _ {M : Type 1} (𝓤 : URA M) (H : Heap 𝓤) (A : Atoms 𝓤) (W : Given 𝓤 H A) (at-mem : Memory → SProp 𝓤) (run : Routine → Fun 𝓤) where
-  copy-out-walks : (𝓣 : Tables 𝓤 H) → Triple 𝓤 (𝓣 .C #listing·entry-at) (EntryAt 𝓤 H A at-mem run) → Walks 𝓤 H A copy-out.ended stayed (WpFn 𝓤 H (𝓣 .C) (𝓣 .Λ) code.function) (copy-out.clauses 𝓤 H A at-mem run)
+  copy-out-walks : (𝓣 : Tables 𝓤 H) → Triple 𝓤 (𝓣 .C #next_records·entry-at) (EntryAt 𝓤 H A at-mem run) → Walks 𝓤 H A copy-out.ended stayed (WpFn 𝓤 H (𝓣 .C) (𝓣 .Λ) code.function) (copy-out.clauses 𝓤 H A at-mem run)
   copy-out-walks 𝓣 known = walked 𝓤 H A copy-out.ended stayed (copy-out.clauses 𝓤 H A at-mem run) (WpFn 𝓤 H (𝓣 .C) (𝓣 .Λ) code.function) (λ κs. (slice-vals, (slice-vals, (evals, tt))))
       (λ κs. (shr-slice-tells (named 0) (κs .0) u64, (mut-slice-tells (named 1) (κs .1 .0) E.the-row, (LL.tells L.the-type L′.the-laws, tt))))
       (λ κs qs bounds a g are. needs 𝓤 (Readable (now (a .0)) (a .1 .1 .0) × (a .1 .1 .0 .count ≤ length (now (a .1 .0)))) _ (λ pre.
@@ -295,13 +295,13 @@ module _ {M : Type 1} (𝓤 : URA M) (H : Heap 𝓤) (A : Atoms 𝓤) (W : Given
   goes = (goes-none-slice 𝓤 H A W 2 (0 ∷ []) tt (plain (λ _. u64)) yes, (goes-slice 𝓤 H A W 2 1 tt (plain (λ _. E.the-row)), (goes-none 𝓤 H A W 2 (λ _. L.the-row) yes (λ κs x f. refl), tt)))
 
 copy-out-meets : {M : Type 1} (𝓤 : URA M) (H : Heap 𝓤) (A : Atoms 𝓤) (W : Given 𝓤 H A) (at-mem : Memory → SProp 𝓤) (run : Routine → Fun 𝓤) (𝓣 : Tables 𝓤 H)
-    → Triple 𝓤 (𝓣 .C #listing·entry-at) (EntryAt 𝓤 H A at-mem run) → Meets 𝓤 H A copy-out.signature (WpFn 𝓤 H (𝓣 .C) (𝓣 .Λ) code.function) (copy-out.spec 𝓤 H A at-mem run)
+    → Triple 𝓤 (𝓣 .C #next_records·entry-at) (EntryAt 𝓤 H A at-mem run) → Meets 𝓤 H A copy-out.signature (WpFn 𝓤 H (𝓣 .C) (𝓣 .Λ) code.function) (copy-out.spec 𝓤 H A at-mem run)
 copy-out-meets 𝓤 H A W at-mem run 𝓣 known = walk-meets 𝓤 H A copy-out.ended stayed W (goes 𝓤 H A W at-mem run) (copy-out.clauses 𝓤 H A at-mem run) (WpFn 𝓤 H (𝓣 .C) (𝓣 .Λ) code.function) (WpFn-mono 𝓤 H (W .laws) 𝓣 code.function) (copy-out-walks 𝓤 H A W at-mem run 𝓣 known)
 
 pub copy-out-spec : {M : Type 1} → stated.statement M
 unfolding code.routine tablesOf
 copy-out-spec 𝓤 H 𝓜 𝓖 𝓡 =
     entered 𝓤 H (tripleOf 𝓤 H (𝓖 .A) copy-out.signature (copy-out.spec 𝓤 H (𝓖 .A) (𝓜 .mem) (𝓡 .run)))
-    (tables 𝓤 H 𝓜 𝓡 code.env .C) (tables 𝓤 H 𝓜 𝓡 code.env .Λ) #listing·copy-out code.function (code.unfolded 𝓤 H 𝓜 𝓡)
+    (tables 𝓤 H 𝓜 𝓡 code.env .C) (tables 𝓤 H 𝓜 𝓡 code.env .Λ) #next_records·copy-out code.function (code.unfolded 𝓤 H 𝓜 𝓡)
     (copy-out-meets 𝓤 H (𝓖 .A) (givenOf 𝓤 H 𝓜 𝓖) (𝓜 .mem) (𝓡 .run) (tablesOf 𝓤 H 𝓜 (tables 𝓤 H 𝓜 𝓡 code.env))
-    (cited 𝓤 H (EntryAt 𝓤 H (𝓖 .A) (𝓜 .mem) (𝓡 .run)) 𝓜 𝓡 code.env #listing·entry-at entry-at-def.routine code.calls-listing·entry-at (entry-at-thm.met 𝓤 H 𝓜 𝓖 𝓡)))
+    (cited 𝓤 H (EntryAt 𝓤 H (𝓖 .A) (𝓜 .mem) (𝓡 .run)) 𝓜 𝓡 code.env #next_records·entry-at entry-at-def.routine code.calls-next-records·entry-at (entry-at-thm.met 𝓤 H 𝓜 𝓖 𝓡)))
