@@ -12,32 +12,32 @@ use Rattle.model.specs.declared.answer.Refusal.the-variants.{RowLimit, HeightLi
 use Rattle.model.proofs.Tests.{by-test}
 use Rattle.append_limits.specs.declared.Ruling.{Ruling}
 use Rattle.append_limits.specs.declared.Ruling.the-variants.{Fine, Refused}
-use Rattle.append_limits.specs.Limits.{checked}
+use Rattle.append_limits.specs.Limits.{limitsTold}
 
 never : {A : Type 0} (r : Refusal) → Refused r ≡ Fine → A
 never r e = let z : _≡_ {A = ℕ} 0 1 = cc in absurd (omega arith)
 
 module _ (k s h m free : ℕ) where
-  pub no-rows : k ≡ 0 → checked k s h m free ≡ Refused RowLimit
-  unfolding checked
+  pub no-rows : k ≡ 0 → limitsTold k s h m free ≡ Refused RowLimit
+  unfolding limitsTold
   no-rows z = rw (eq-eqb k 0 z)
 
   module _ (a : k ≡ 0 → ⊥) where
-    pub past-limit : rowLimit < s + k → checked k s h m free ≡ Refused RowLimit
-    unfolding checked
+    pub past-limit : rowLimit < s + k → limitsTold k s h m free ≡ Refused RowLimit
+    unfolding limitsTold
     past-limit b = rw (ne-eqb k 0 a, lt-ltb rowLimit (s + k) b)
 
     module _ (b : s + k ≤ rowLimit) where
-      pub too-high : h < m → h ≡ maxHeight → checked k s h m free ≡ Refused HeightLimit
-      unfolding checked
+      pub too-high : h < m → h ≡ maxHeight → limitsTold k s h m free ≡ Refused HeightLimit
+      unfolding limitsTold
       too-high c d = rw (ne-eqb k 0 a, le-ltb rowLimit (s + k) b, lt-ltb h m c, eq-eqb h maxHeight d)
 
-      pub too-few : (ltb h m && eqb h maxHeight) ≡ false → free < m → checked k s h m free ≡ Refused (NoRoom m)
-      unfolding checked
+      pub too-few : (ltb h m && eqb h maxHeight) ≡ false → free < m → limitsTold k s h m free ≡ Refused (NoRoom m)
+      unfolding limitsTold
       too-few c d = rw (ne-eqb k 0 a, le-ltb rowLimit (s + k) b, c, lt-ltb free m d)
 
-      pub all-fine : (ltb h m && eqb h maxHeight) ≡ false → m ≤ free → checked k s h m free ≡ Fine
-      unfolding checked
+      pub all-fine : (ltb h m && eqb h maxHeight) ≡ false → m ≤ free → limitsTold k s h m free ≡ Fine
+      unfolding limitsTold
       all-fine c d = rw (ne-eqb k 0 a, le-ltb rowLimit (s + k) b, c, le-ltb free m d)
 
   pub record Passes : Type 0 where
@@ -45,8 +45,8 @@ module _ (k s h m free : ℕ) where
     pub low : h < m → h ≢ maxHeight
     pub enough : m ≤ free
 
-  pub passes : checked k s h m free ≡ Fine → Passes
-  unfolding checked
+  pub passes : limitsTold k s h m free ≡ Fine → Passes
+  unfolding limitsTold
   passes e =
       by-test (eqb k 0 || ltb rowLimit (s + k))
       (λ t. never RowLimit (rw t at e))

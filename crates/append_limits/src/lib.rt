@@ -3,7 +3,7 @@
 ghost use mathlib.Core.Path.{_≡_};
 ghost use Prim.Native.Nat.{_≤_};
 ghost use Rattle.model.specs.Words.{rowLimit};
-ghost use Rattle.append_limits.specs.Limits.{checked};
+ghost use Rattle.append_limits.specs.Limits.{limitsTold};
 use model::answer::Refusal;
 use model::id::RowID;
 use model::node::RowPageIndexNodeHeader;
@@ -16,7 +16,7 @@ pub enum Ruling {
 // count rows from start on, in a tree of this height that needs more nodes, with so many free.
 pub fn test_limits(start: RowID, count: u64, height: u64, needed: u64, free: u64) -> Ruling
     requires { ⌜ start .0 ≤ rowLimit ⌝ }
-    ensures { λ r. ⌜ r ≡ checked count (start .0) height needed free ⌝ }
+    ensures { λ r. ⌜ r ≡ limitsTold count (start .0) height needed free ⌝ }
 {
     if count == 0 {
         return Ruling::Refused(Refusal::RowLimit);

@@ -25,7 +25,7 @@ use Rattle.append_limits.specs.declared.Ruling.{Ruling}
 use Rattle.append_limits.specs.declared.Ruling.the-variants.{Fine, Refused}
 use Rattle.append_path.specs.Inside.{Inside, numberAt}
 use Rattle.call_append.specs.Placed.{grown, placed}
-use Rattle.append_limits.specs.Limits.{checked}
+use Rattle.append_limits.specs.Limits.{limitsTold}
 
 -- a refusal leaves the words w
 abbrev ruled : List ℕ → Outcome → Ruling → Outcome
@@ -33,8 +33,8 @@ ruled w o Fine = o
 ruled w o (Refused r) = record { answer = refusal r; words = w }
 
 module _ (C : Shape) (P : ℕ) (w : List ℕ) (n k x l : ℕ) (b : Limit) where
-  append-ruled : appendTo C P w n k x (leaf l b) ≡ ruled w (placed C P w n (appendStart C w l) (appendStart C w l + k) x (room C w n)) (checked k (appendStart C w l) (height C w n) (room C w n .needed) (freeCount w))
-  unfolding appendTo checked placed
+  append-ruled : appendTo C P w n k x (leaf l b) ≡ ruled w (placed C P w n (appendStart C w l) (appendStart C w l + k) x (room C w n)) (limitsTold k (appendStart C w l) (height C w n) (room C w n .needed) (freeCount w))
+  unfolding appendTo limitsTold placed
   append-ruled =
       by-test (eqb k 0 || ltb rowLimit (appendStart C w l + k))
       (λ t. rw t)
@@ -44,13 +44,13 @@ module _ (C : Shape) (P : ℕ) (w : List ℕ) (n k x l : ℕ) (b : Limit) where
 
   -- by what the code has found
   module _ (s h free : ℕ) (o : Room) (is-start : s ≡ appendStart C w l) (is-height : h ≡ height C w n) (is-free : free ≡ freeCount w) (is-room : o ≡ room C w n) where
-    append-by : appendTo C P w n k x (leaf l b) ≡ ruled w (placed C P w n s (s + k) x o) (checked k s h (o .needed) free)
+    append-by : appendTo C P w n k x (leaf l b) ≡ ruled w (placed C P w n s (s + k) x o) (limitsTold k s h (o .needed) free)
     append-by = append-ruled ∙ rw (is-start, is-height, is-free, is-room)
 
-    pub append-refused : (r : Refusal) → checked k s h (o .needed) free ≡ Refused r → appendTo C P w n k x (leaf l b) ≡ record { answer = refusal r; words = w }
+    pub append-refused : (r : Refusal) → limitsTold k s h (o .needed) free ≡ Refused r → appendTo C P w n k x (leaf l b) ≡ record { answer = refusal r; words = w }
     append-refused r e = append-by ∙ rw e
 
-    pub append-fine : checked k s h (o .needed) free ≡ Fine → appendTo C P w n k x (leaf l b) ≡ placed C P w n s (s + k) x o
+    pub append-fine : limitsTold k s h (o .needed) free ≡ Fine → appendTo C P w n k x (leaf l b) ≡ placed C P w n s (s + k) x o
     append-fine e = append-by ∙ rw e
 
 -- The writes ---------------------------------------------------------------------------------------------

@@ -17,26 +17,26 @@ use Rattle.model.specs.FullCheck.{fullCheck}
 use Rattle.model.specs.declared.node.PageEntry.{PageEntry}
 use Rattle.model.specs.declared.cursor.RowPageIndexMemCursor.{RowPageIndexMemCursor}
 
-pub data Call : Type 0 where
-  Create : ℕ → ℕ → ℕ → Call
-  Append : ℕ → ℕ → Call
-  Find : ℕ → Call
-  Prune : ℕ → ℕ → List ℕ → Call
-  Walk : ℕ → Call
-  Release : ℕ → Call
-  ReleaseEmpty : Call
-  Check : Call
+pub data CaseCall : Type 0 where
+  Create : ℕ → ℕ → ℕ → CaseCall
+  Append : ℕ → ℕ → CaseCall
+  Find : ℕ → CaseCall
+  Prune : ℕ → ℕ → List ℕ → CaseCall
+  Walk : ℕ → CaseCall
+  Release : ℕ → CaseCall
+  ReleaseEmpty : CaseCall
+  Check : CaseCall
   -- height, count, start and end of every node, in reading order
-  Shape : Call
+  Shape : CaseCall
   -- k words of the store from word i on, or of node n from its word j on
-  Words : ℕ → ℕ → Call
-  Part : ℕ → ℕ → ℕ → Call
+  Words : ℕ → ℕ → CaseCall
+  Part : ℕ → ℕ → ℕ → CaseCall
   -- the free nodes in the order of the chain, as many as the free count says, and the number after them
-  Chain : Call
+  Chain : CaseCall
   -- word i of the store, or word j of node n, becomes x; or the store becomes these words
-  Set : ℕ → ℕ → Call
-  Put : ℕ → ℕ → ℕ → Call
-  Load : List ℕ → Call
+  Set : ℕ → ℕ → CaseCall
+  Put : ℕ → ℕ → ℕ → CaseCall
+  Load : List ℕ → CaseCall
 
 -- the leaves from a cursor on: the answers up to the first that is no leaf
 unfoldable pub walkAnswers : List ℕ → ℕ → Stepped → List Answer
@@ -72,7 +72,7 @@ abbrev pub ran : Outcome → Ran
 ran o = record { answers = o .answer ∷ []; words = o .words }
 
 -- lists lent here always suffice
-unfoldable pub run : List ℕ → Call → Ran
+unfoldable pub run : List ℕ → CaseCall → Ran
 run w (Create C P s) = ran (create lent (replicate (storeLength C P) 7) C P s)
 run w (Append k x) = ran (insertRowPage lent w k x)
 run w (Find q) = record { answers = tryFindRow lent w q ∷ []; words = w }
@@ -92,7 +92,7 @@ run w (Load v) = record { answers = result [] ∷ []; words = v }
 
 -- a call and what it must answer
 abbrev pub Line : Type 0
-Line = Call × List Answer
+Line = CaseCall × List Answer
 
 unfoldable pub answersFrom : List ℕ → List Line → List (List Answer)
 answersFrom w [] = []

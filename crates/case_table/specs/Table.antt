@@ -2,9 +2,9 @@
 use Prim.Native.Nat.{ℕ, zero, suc, _+_, _*_, _-_, _^_}
 use mathlib.Core.List.{List, [], _∷_, _++_}
 use Rattle.model.specs.Refusals.{Answer, result, refused}
-use Rattle.case_table.specs.Run.{Call, Create, Append, Find, Prune, Walk, Release, ReleaseEmpty, Check, Shape, Set, Put, Line}
+use Rattle.case_table.specs.Run.{CaseCall, Create, Append, Find, Prune, Walk, Release, ReleaseEmpty, Check, Shape, Set, Put, Line}
 
-abbrev pub line : Call → Answer → Line
+abbrev pub line : CaseCall → Answer → Line
 line c a = (c, a ∷ [])
 
 -- 01's numbers, as numbers ---------------------------------------------------------------------------------

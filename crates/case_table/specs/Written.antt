@@ -3,7 +3,7 @@
 use Prim.Native.Nat.{ℕ, zero, suc, _+_, _*_, _-_}
 use mathlib.Core.List.{List, [], _∷_, _++_}
 use Rattle.model.specs.Refusals.{Answer, result, refused}
-use Rattle.case_table.specs.Run.{Call, Create, Append, Find, Prune, Walk, Release, ReleaseEmpty, Check, Words, Part, Chain, Set, Put, Load, Line}
+use Rattle.case_table.specs.Run.{CaseCall, Create, Append, Find, Prune, Walk, Release, ReleaseEmpty, Check, Words, Part, Chain, Set, Put, Load, Line}
 use Rattle.case_table.specs.Table.{line, NONE, freeMark, five, nine, cutAt}
 
 -- words 0 to 7; node n, all its words or the first four; the chain

@@ -21,33 +21,33 @@ use Rattle.model.proofs.Frame.{Same, occ-self, occ-nil, nodes-self}
 use Rattle.model.proofs.Once.{occ-other}
 use Rattle.model.proofs.Writes.{occ-cons, put-keeps, emptied-length, emptied-word}
 use Rattle.law_formed.specs.Formed.{Blank, blank, treeOf, Formed}
-use Rattle.law_append.specs.Created.{numbers}
+use Rattle.law_append.specs.Created.{numbersFrom}
 use Rattle.law_append.proofs.Ends.{blank-entries}
 
 -- Numbers in turn ---------------------------------------------------------------------------------------
 
-length-numbers : (n k : ℕ) → length (numbers n k) ≡ k
-unfolding numbers
+length-numbers : (n k : ℕ) → length (numbersFrom n k) ≡ k
+unfolding numbersFrom
 length-numbers n zero = refl
 length-numbers n (suc k) = ap suc (length-numbers (n + 1) k)
 
-below-numbers : (m n k : ℕ) → m < n → occ m (numbers n k) ≡ 0
-unfolding numbers
+below-numbers : (m n k : ℕ) → m < n → occ m (numbersFrom n k) ≡ 0
+unfolding numbersFrom
 below-numbers m n zero l = occ-nil m
-below-numbers m n (suc k) l = omega (arith, occ-cons m n (numbers (n + 1) k), occ-other m n (omega arith), below-numbers m (n + 1) k (omega arith))
+below-numbers m n (suc k) l = omega (arith, occ-cons m n (numbersFrom (n + 1) k), occ-other m n (omega arith), below-numbers m (n + 1) k (omega arith))
 
-above-numbers : (m n k : ℕ) → n + k ≤ m → occ m (numbers n k) ≡ 0
-unfolding numbers
+above-numbers : (m n k : ℕ) → n + k ≤ m → occ m (numbersFrom n k) ≡ 0
+unfolding numbersFrom
 above-numbers m n zero l = occ-nil m
-above-numbers m n (suc k) l = omega (arith, occ-cons m n (numbers (n + 1) k), occ-other m n (omega arith), above-numbers m (n + 1) k (omega arith))
+above-numbers m n (suc k) l = omega (arith, occ-cons m n (numbersFrom (n + 1) k), occ-other m n (omega arith), above-numbers m (n + 1) k (omega arith))
 
-among-numbers : (m n k : ℕ) → n ≤ m → m < n + k → occ m (numbers n k) ≡ 1
-unfolding numbers
+among-numbers : (m n k : ℕ) → n ≤ m → m < n + k → occ m (numbersFrom n k) ≡ 1
+unfolding numbersFrom
 among-numbers m n zero a b = absurd (omega arith)
 among-numbers m n (suc k) a b =
     by-test (eqb m n)
-    (λ t. omega (arith, eqb-true m n t, occ-cons m n (numbers (n + 1) k), subst (λ (j : ℕ). occ m (j ∷ []) ≡ 1) (eqb-true m n t) (occ-self m), below-numbers m (n + 1) k (omega (arith, eqb-true m n t))))
-    (λ t. omega (arith, occ-cons m n (numbers (n + 1) k), occ-other m n (eqb-false m n t), among-numbers m (n + 1) k (omega (arith, eqb-false m n t)) (omega arith)))
+    (λ t. omega (arith, eqb-true m n t, occ-cons m n (numbersFrom (n + 1) k), subst (λ (j : ℕ). occ m (j ∷ []) ≡ 1) (eqb-true m n t) (occ-self m), below-numbers m (n + 1) k (omega (arith, eqb-true m n t))))
+    (λ t. omega (arith, occ-cons m n (numbersFrom (n + 1) k), occ-other m n (eqb-false m n t), among-numbers m (n + 1) k (omega (arith, eqb-false m n t)) (omega arith)))
 
 -- The tree of an empty root -----------------------------------------------------------------------------
 
@@ -55,7 +55,7 @@ new-nodes : (C : Shape) (v : List ℕ) (m : ℕ) → count C v 0 ≡ 0 → occ m
 unfolding pairsFrom inPairs occ
 new-nodes C v m z = omega (arith, nodes-self C v 0 0 m, ap (λ (k : ℕ). occ m (inPairs (nodes 0) (pairsFrom C v (level C v 0) 0 0 k))) z)
 
-covers : (C : Shape) (P : ℕ) (v : List ℕ) (m : ℕ) → 1 ≤ P → count C v 0 ≡ 0 → occ m (nodes 1 (level C v 1 0)) + occ m (numbers 1 (P - 1)) ≡ pick (ltb m P) 1 0
+covers : (C : Shape) (P : ℕ) (v : List ℕ) (m : ℕ) → 1 ≤ P → count C v 0 ≡ 0 → occ m (nodes 1 (level C v 1 0)) + occ m (numbersFrom 1 (P - 1)) ≡ pick (ltb m P) 1 0
 covers C P v m p z =
     by-test (eqb m 0)
     (λ t. let e = eqb-true m 0 t in
@@ -109,8 +109,8 @@ module _ (C : Shape) where
   chained-keeps w n (suc k) m l j b =
       put-keeps C w n m 0 _ (omega arith) (omega arith) j b ∙ put-keeps C _ n m 1 _ (omega arith) (omega arith) j b ∙ chained-keeps (link w n) (n + 1) k m (omega arith) j b
 
-  chained-chain : (P : ℕ) (w : List ℕ) (n k : ℕ) → n + k ≡ P → Header (C .cap) P w → Chain C P (chained C w n k) n (numbers n k)
-  unfolding chained Chain numbers
+  chained-chain : (P : ℕ) (w : List ℕ) (n k : ℕ) → n + k ≡ P → Header (C .cap) P w → Chain C P (chained C w n k) n (numbersFrom n k)
+  unfolding chained Chain numbersFrom
   chained-chain P w n zero e hd = omega arith
   chained-chain P w n (suc k) e hd =
       let u₁ = put C w n 0 freeMark in
@@ -121,7 +121,7 @@ module _ (C : Shape) where
         refl,
         i,
         sym (q 0 (omega arith)) ∙ put-other C u₁ n 1 0 (n + 1) (omega arith) ∙ put-same C P w hd n 0 freeMark i (omega arith),
-        subst (λ (j : ℕ). Chain C P (chained C u (n + 1) k) j (numbers (n + 1) k)) (sym (sym (q 1 (omega arith)) ∙ put-same C P u₁ h₁ n 1 (n + 1) i (omega arith)))
+        subst (λ (j : ℕ). Chain C P (chained C u (n + 1) k) j (numbersFrom (n + 1) k)) (sym (sym (q 1 (omega arith)) ∙ put-same C P u₁ h₁ n 1 (n + 1) i (omega arith)))
             (chained-chain P u (n + 1) k (omega arith) (put-header C P u₁ h₁ n 1 (n + 1))),
       )
 
@@ -195,7 +195,7 @@ module _ (C : Shape) (P : ℕ) (w : List ℕ) (s : ℕ) where
           ends = v-empty 3 (omega arith) ∙ E .ends;
         })
 
-    new-formed : s ≤ rowLimit → Formed C P v 0 s (numbers 1 (P - 1))
+    new-formed : s ≤ rowLimit → Formed C P v 0 s (numbersFrom 1 (P - 1))
     unfolding v u
     new-formed l =
         record {
@@ -204,16 +204,16 @@ module _ (C : Shape) (P : ℕ) (w : List ℕ) (s : ℕ) where
           header = header-at (C .cap) P u v u-header (chained-length C u 1 (P - 1));
           whole = blank (new-blank l);
           high = omega arith;
-          chain = subst (λ (n : ℕ). Chain C P v n (numbers 1 (P - 1))) (sym (v-word 3 (omega arith))) (chained-chain C P u 1 (P - 1) (omega (arith, hd .pool-low)) u-header);
+          chain = subst (λ (n : ℕ). Chain C P v n (numbersFrom 1 (P - 1))) (sym (v-word 3 (omega arith))) (chained-chain C P u 1 (P - 1) (omega (arith, hd .pool-low)) u-header);
           free = v-word 4 (omega arith) ∙ sym (length-numbers 1 (P - 1));
-          cover = λ m. subst (λ (n : ℕ). occ m (nodes 1 (level C v 1 n)) + occ m (numbers 1 (P - 1)) ≡ pick (ltb m P) 1 0) (sym new-root) (covers C P v m (hd .pool-low) (v-empty 1 (omega arith) ∙ E .none));
+          cover = λ m. subst (λ (n : ℕ). occ m (nodes 1 (level C v 1 n)) + occ m (numbersFrom 1 (P - 1)) ≡ pick (ltb m P) 1 0) (sym new-root) (covers C P v m (hd .pool-low) (v-empty 1 (omega arith) ∙ E .none));
         }
 
   -- the law
-  pub create-formed : create (C .slots) w (C .cap) P s .answer ≡ result [] → Formed C P (create (C .slots) w (C .cap) P s .words) 0 s (numbers 1 (P - 1))
+  pub create-formed : create (C .slots) w (C .cap) P s .answer ≡ result [] → Formed C P (create (C .slots) w (C .cap) P s .words) 0 s (numbersFrom 1 (P - 1))
   create-formed a =
       let A = accepted a in
-      subst (λ (z : List ℕ). Formed C P z 0 s (numbers 1 (P - 1))) (sym (A .words ∙ v-new (A .header))) (new-formed (A .header) (A .low))
+      subst (λ (z : List ℕ). Formed C P z 0 s (numbersFrom 1 (P - 1))) (sym (A .words ∙ v-new (A .header))) (new-formed (A .header) (A .low))
 
   pub create-empty : create (C .slots) w (C .cap) P s .answer ≡ result [] → entries 1 (treeOf C (create (C .slots) w (C .cap) P s .words) 0) s Open ≡ []
   create-empty a =

@@ -3,6 +3,6 @@ use Prim.Native.Nat.{ℕ, zero, suc, _+_}
 use mathlib.Core.List.{List, [], _∷_}
 
 -- n, n + 1, …, k of them
-unfoldable pub numbers : ℕ → ℕ → List ℕ
-numbers n zero = []
-numbers n (suc k) = n ∷ numbers (n + 1) k
+unfoldable pub numbersFrom : ℕ → ℕ → List ℕ
+numbersFrom n zero = []
+numbersFrom n (suc k) = n ∷ numbersFrom (n + 1) k

@@ -20,7 +20,7 @@ use Rattle.law_formed.specs.Holds.{Holds}
 use Rattle.model.proofs.Fill.{length-fill}
 use Rattle.law_walk.specs.Walking.{firstPairs, Gives, one, ended}
 use Rattle.law_walk.proofs.Walk.{read, none-some, third}
-use Rattle.law_history.specs.Calls.{Loan, nothing, withCursor, withRecords, reply, History}
+use Rattle.law_history.specs.Calls.{Loan, noLoan, withCursor, withRecords, reply, History}
 use Rattle.law_history.specs.Laws.{Walks, between, gave, over}
 use Rattle.law_history.proofs.Leaves.{spot}
 use Rattle.law_history.proofs.Next.{next-short, next-none, next-leaf, gives-leaf}
@@ -37,7 +37,7 @@ module _ (w : List ℕ) (l : Ledger) (H : Holds lent w l) where
     long : length (nextLeafOf lent w c x .list) ≡ length x
 
   abbrev lentWith : RowPageIndexMemCursor → List PageEntry → Loan
-  lentWith c x = withRecords (withCursor nothing c) x
+  lentWith c x = withRecords (withCursor noLoan c) x
 
   both-give : (c : RowPageIndexMemCursor) (y x : List PageEntry) (s e k : ℕ) → c .done ≡ false → capacity w ≤ length y → capacity w ≤ length x → nextLeafOf lent w c y .answer ≡ result (s ∷ e ∷ k ∷ []) → Alike c y x s e k
   unfolding given

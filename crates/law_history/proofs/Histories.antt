@@ -20,7 +20,7 @@ use Rattle.law_formed.proofs.Entries.{from-length}
 use Rattle.law_formed.proofs.FindLaw.{find-law}
 use Rattle.law_append.proofs.Insert.{insert-keeps}
 use Rattle.law_append.proofs.Verdict.{verdict-five}
-use Rattle.law_ledger.specs.Sizes.{treeHeight, treeNodes, neededNodes}
+use Rattle.law_ledger.specs.Sizes.{treeHeight, treeSize, neededNodes}
 use Rattle.law_ledger.specs.Laws.{PruneLaw}
 use Rattle.law_ledger.proofs.Calls.{create-law, insert-law, prune-law}
 use Rattle.law_walk.proofs.Walk.{walk-law, walk-from}
@@ -67,7 +67,7 @@ module _ (w : List ℕ) (l : Ledger) (H : Holds lent w l) where
   told m nextLeaf = next-law w l H m
   told m (release v) = told-release m v
   told m releaseEmpty = told-empty m
-  told m check = accepted lent w (H .formed) ∙ ap (λ (n : ℕ). result (n ∷ treeNodes lent w ∷ freeCount w ∷ [])) (ap length (H .entries) ∙ from-length (l .start) (l .ranges))
+  told m check = accepted lent w (H .formed) ∙ ap (λ (n : ℕ). result (n ∷ treeSize lent w ∷ freeCount w ∷ [])) (ap length (H .entries) ∙ from-length (l .start) (l .ranges))
 
   pub holding-of : Holding w l
   unfolding reply

@@ -24,7 +24,7 @@ use Rattle.law_formed.proofs.Entries.{from-length}
 use Rattle.law_formed.proofs.Rooted.{empty-entries}
 use Rattle.law_append.specs.Needed.{entriesEnd}
 use Rattle.law_ledger.proofs.Calls.{ends}
-use Rattle.law_walk.specs.Walking.{LeafAt, leaves, storeLeaves}
+use Rattle.law_walk.specs.Walking.{LeafAt, leavesOf, storeLeaves}
 use Rattle.law_walk.proofs.Lined.{Good, Lined, chosenIn, lined-good, lined-rest, lowOf, split}
 use Rattle.law_walk.proofs.Chosen.{leafOf, store-lined, store-reach}
 use Rattle.law_walk.proofs.Walk.{lowPage, leaf-joined, from-walk}
@@ -45,8 +45,8 @@ module _ (C : Shape) (w : List ℕ) where
   leaves-append [] ys = refl
   leaves-append (x ∷ xs) ys = ap (λ (t : List Entry). leafEntries x ++ t) (leaves-append xs ys) ∙ sym (append-assoc (leafEntries x) (byLeaves xs) (byLeaves ys))
 
-  over-leaves : (h : ℕ) → ((n r : ℕ) (b : Limit) → entries (suc h) (level C w (suc h) n) r b ≡ byLeaves (leaves h (level C w (suc h) n) r b)) → (n i k : ℕ) (b : Limit)
-      → overPairs (entries (suc h)) (pairsFrom C w (level C w (suc h)) n i k) b ≡ byLeaves (overPairs (leaves h) (pairsFrom C w (level C w (suc h)) n i k) b)
+  over-leaves : (h : ℕ) → ((n r : ℕ) (b : Limit) → entries (suc h) (level C w (suc h) n) r b ≡ byLeaves (leavesOf h (level C w (suc h) n) r b)) → (n i k : ℕ) (b : Limit)
+      → overPairs (entries (suc h)) (pairsFrom C w (level C w (suc h)) n i k) b ≡ byLeaves (overPairs (leavesOf h) (pairsFrom C w (level C w (suc h)) n i k) b)
   unfolding overPairs pairsFrom byLeaves
   over-leaves h f n i zero b = refl
   over-leaves h f n i (suc k) b =
@@ -54,11 +54,11 @@ module _ (C : Shape) (w : List ℕ) where
       let m = child C w n i in
       let r = row C w n i in
       ap (λ (t : List Entry). t ++ overPairs (entries (suc h)) ps b) (f m r (next ps b))
-      ∙ ap (λ (t : List Entry). byLeaves (leaves h (level C w (suc h) m) r (next ps b)) ++ t) (over-leaves h f n (i + 1) k b)
-      ∙ sym (leaves-append (leaves h (level C w (suc h) m) r (next ps b)) (overPairs (leaves h) ps b))
+      ∙ ap (λ (t : List Entry). byLeaves (leavesOf h (level C w (suc h) m) r (next ps b)) ++ t) (over-leaves h f n (i + 1) k b)
+      ∙ sym (leaves-append (leavesOf h (level C w (suc h) m) r (next ps b)) (overPairs (leavesOf h) ps b))
 
-  tree-leaves : (h n r : ℕ) (b : Limit) → entries (suc h) (level C w (suc h) n) r b ≡ byLeaves (leaves h (level C w (suc h) n) r b)
-  unfolding entries leaves byLeaves last level
+  tree-leaves : (h n r : ℕ) (b : Limit) → entries (suc h) (level C w (suc h) n) r b ≡ byLeaves (leavesOf h (level C w (suc h) n) r b)
+  unfolding entries leavesOf byLeaves last level
   tree-leaves zero n r b = sym (append-nil (overPairs (entries 0) (pairsFrom C w (level C w 0) n 0 (count C w n)) (Below (end C w n))))
   tree-leaves (suc h) n r b = over-leaves h (tree-leaves h) n 0 (count C w n) b
 

@@ -18,7 +18,7 @@ use Rattle.law_formed.specs.Holds.{entriesFrom, Holds}
 use Rattle.law_formed.proofs.Entries.{from-length}
 use Rattle.law_formed.proofs.Opens.{sum, goes-on}
 use Rattle.law_formed.proofs.Rooted.{sound-root}
-use Rattle.law_ledger.specs.Sizes.{treeNodes}
+use Rattle.law_ledger.specs.Sizes.{treeSize}
 use Rattle.call_release.specs.Ledgers.{AtOrAbove, Releases}
 use Rattle.call_release.proofs.ByLedger.{releases}
 use Rattle.call_release.proofs.EmptyLedger.{empty-released, filled-refused}
@@ -79,7 +79,7 @@ module _ (w : List ℕ) (l : Ledger) (H : Holds lent w l) (v : ℕ) (x : List �
   n = length (l .ranges)
 
   abbrev done : Released
-  done = record { answer = result (treeNodes lent w ∷ n ∷ []); words = releasedWords (storeShape lent w) (pool w) w (rootNodes (storeShape lent w) w (root w)); list = fill x 0 (pageIds (rootEntries (storeShape lent w) w (root w))) }
+  done = record { answer = result (treeSize lent w ∷ n ∷ []); words = releasedWords (storeShape lent w) (pool w) w (rootNodes (storeShape lent w) w (root w)); list = fill x 0 (pageIds (rootEntries (storeShape lent w) w (root w))) }
 
   many : length (rootEntries (storeShape lent w) w (root w)) ≡ n
   many = ap length (H .entries) ∙ from-length (l .start) (l .ranges)
@@ -100,9 +100,9 @@ module _ (w : List ℕ) (l : Ledger) (H : Holds lent w l) (v : ℕ) (x : List �
       )
 
   pub data Decided : Type 0 where
-    below : (r : ℕ) → ledgerRelease l v (treeNodes lent w) (length x) ≡ refused 12 r → destroy lent w v x ≡ still (refused 12 r) → Decided
-    short : ledgerRelease l v (treeNodes lent w) (length x) ≡ refused 13 n → destroy lent w v x ≡ still (refused 13 n) → Decided
-    good : ledgerRelease l v (treeNodes lent w) (length x) ≡ result (treeNodes lent w ∷ n ∷ []) → destroy lent w v x ≡ done → Releases w l x (destroy lent w v x) → Decided
+    below : (r : ℕ) → ledgerRelease l v (treeSize lent w) (length x) ≡ refused 12 r → destroy lent w v x ≡ still (refused 12 r) → Decided
+    short : ledgerRelease l v (treeSize lent w) (length x) ≡ refused 13 n → destroy lent w v x ≡ still (refused 13 n) → Decided
+    good : ledgerRelease l v (treeSize lent w) (length x) ≡ result (treeSize lent w ∷ n ∷ []) → destroy lent w v x ≡ done → Releases w l x (destroy lent w v x) → Decided
 
   pub decide : Decided
   unfolding ledgerRelease

@@ -16,11 +16,11 @@ use Rattle.model.specs.Refusals.{headerOk}
 use Rattle.model.specs.Release.{firstLow, releasedWords, destroy}
 use Rattle.model.specs.Tree.{pairsFrom, rising, firstRow, lastRow, meets, endSound, sound, emptyRoot, rootSound, level, next, last, overPairs}
 use Rattle.model.specs.Words.{lent, stands, wordPlace, part, put, emptied, added, copyFrom, copied, freed, freeAll, fill}
-use Rattle.law_history.specs.Calls.{Loan, nothing, withPages, Call, append, lookup, prune, seekRow, release, reply, State, holding, closed, ifDone, stateAfter, History, Place, begin, run}
+use Rattle.law_history.specs.Calls.{Loan, noLoan, withPages, Call, append, lookup, prune, seekRow, release, reply, State, holding, closed, ifDone, stateAfter, History, Place, begin, run}
 
 -- room for five page ids
 abbrev some : Loan
-some = withPages nothing (replicate 5 9)
+some = withPages noLoan (replicate 5 9)
 
 abbrev new : Place
 new = begin (create lent (replicate 136 7) 2 16 0 .words) (emptyLedger 0)

@@ -22,8 +22,8 @@ pub record Loan : Type 0 where
 
 -- One thing lent changes and the others stay. What a further call is lent becomes a field above, and its name in these
 -- four lines with a function of its own; nothing else takes a loan apart or puts one together.
-abbrev pub nothing : Loan
-nothing = record { cursor = unsought; records = []; pages = [] }
+abbrev pub noLoan : Loan
+noLoan = record { cursor = unsought; records = []; pages = [] }
 
 module _ (m : Loan) where
   abbrev pub withCursor : RowPageIndexMemCursor → Loan

@@ -15,7 +15,7 @@ use Rattle.model.specs.Ledger.{Range, Ledger, ledgerFind, ledgerEnd, ledgerCut,
 use Rattle.model.specs.declared.node.PageEntry.{PageEntry}
 use Rattle.law_formed.specs.Holds.{Holds}
 use Rattle.law_append.specs.Inserted.{verdict, Passes}
-use Rattle.law_ledger.specs.Sizes.{treeHeight, treeNodes, neededNodes}
+use Rattle.law_ledger.specs.Sizes.{treeHeight, treeSize, neededNodes}
 use Rattle.law_ledger.specs.Laws.{PruneLaw}
 use Rattle.law_walk.specs.Walking.{leafCount, Gives, From}
 use Rattle.law_history.specs.Calls.{Loan, Call, append, lookup, prune, seekRow, nextLeaf, release, releaseEmpty, check, Reply, reply, State, holding, closed, History}
@@ -32,10 +32,10 @@ Told w l m (prune s e ids) r = PruneLaw lent w e ids (ledgerCut l s e ids) (reco
 Told w l m (seekRow q) r = r .loan .cursor ≡ cursorAt q false
 Told w l m nextLeaf r = NextLaw w l m r
 Told w l m (release v) r =
-    (r .answer ≡ ledgerRelease l v (treeNodes lent w) (length (m .pages)))
+    (r .answer ≡ ledgerRelease l v (treeSize lent w) (length (m .pages)))
     × ((a : List ℕ) → r .answer ≡ result a → r .loan .pages ≡ map (λ (g : Range). g .page) (l .ranges) ++ drop (length (l .ranges)) (m .pages))
 Told w l m releaseEmpty r = r .answer ≡ pick (eqb (length (l .ranges)) 0) (result (1 ∷ 0 ∷ [])) (refused 12 0)
-Told w l m check r = r .answer ≡ result (length (l .ranges) ∷ treeNodes lent w ∷ freeCount w ∷ [])
+Told w l m check r = r .answer ≡ result (length (l .ranges) ∷ treeSize lent w ∷ freeCount w ∷ [])
 
 -- The store holds a ledger -----------------------------------------------------------------------------------------
 

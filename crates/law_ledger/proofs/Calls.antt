@@ -18,13 +18,13 @@ use Rattle.law_formed.proofs.Bridge.{formed-of, formed-root}
 use Rattle.law_formed.proofs.Entries.{from-append, formed-holds, holds-formed}
 use Rattle.law_append.specs.Needed.{entriesEnd}
 use Rattle.law_append.specs.Inserted.{endRow, wanted, verdict, Appended}
-use Rattle.law_append.specs.Created.{numbers}
+use Rattle.law_append.specs.Created.{numbersFrom}
 use Rattle.model.proofs.Still.{insert-still}
 use Rattle.law_append.proofs.Insert.{insert-verdict, insert-keeps}
 use Rattle.law_append.proofs.Create.{create-formed, create-empty}
 use Rattle.law_prune.specs.Pruned.{collapsedLevels, Pruned, Accepts, Follows}
 use Rattle.law_prune.proofs.Prune.{prune-answer}
-use Rattle.law_ledger.specs.Sizes.{treeHeight, treeNodes, neededNodes}
+use Rattle.law_ledger.specs.Sizes.{treeHeight, treeSize, neededNodes}
 use Rattle.law_ledger.specs.Laws.{InsertLaw, levelsGone, CutLaw, PruneLaw}
 
 -- entries end where the ledger does
@@ -42,7 +42,7 @@ levels-are e h g (a ∷ gs) = refl
 
 pub create-law : (L : Arrangement) (w : List ℕ) (C P s : ℕ) → create L w C P s .answer ≡ result [] → Holds L (create L w C P s .words) (emptyLedger s)
 unfolding entriesFrom
-create-law L w C P s e = formed-holds (shape L C) P (create L w C P s .words) 0 s (numbers 1 (P - 1)) (create-formed (shape L C) P w s e) [] (create-empty (shape L C) P w s e)
+create-law L w C P s e = formed-holds (shape L C) P (create L w C P s .words) 0 s (numbersFrom 1 (P - 1)) (create-formed (shape L C) P w s e) [] (create-empty (shape L C) P w s e)
 
 -- Append -------------------------------------------------------------------------------------------------
 
@@ -116,7 +116,7 @@ module _ (L : Arrangement) (w : List ℕ) (l : Ledger) (H : Holds L w l) where
           levels = A .l;
           answer = A .answer;
           holds = formed-holds (storeShape L w) (pool w) v (p .height) e (p .chain) (p .formed) gs (f .1);
-          nodes = p .fewer ∙ ap (λ (x : ℕ). treeNodes L w - x)
+          nodes = p .fewer ∙ ap (λ (x : ℕ). treeSize L w - x)
               (ap (λ (h : ℕ). length (nodes (suc h) (level (storeShape L w) v (suc h) (root v)))) (sym tall) ∙ ap (λ (x : ℕ). length (nodes (suc (treeHeight L v)) (level (shape L x) v (suc (treeHeight L v)) (root v)))) (sym c));
           collapsed = p .levels ∙ ap (collapsedLevels (treeHeight L w) (p .height)) (f .1) ∙ levels-are e (treeHeight L w) (p .height) gs ∙ ap (λ (h : ℕ). levelsGone (treeHeight L w) h gs) (sym tall);
           free = p .formed .free ∙ p .more ∙ ap (λ (x : ℕ). x + A .f) (sym (F .1 .free));

@@ -10,7 +10,7 @@ use Rattle.model.specs.Prune.{pruneCheckpointPrefix}
 use Rattle.model.specs.Ledger.{Range, Ledger, ledgerEnd, ledgerAppend, Cut, refuses, leaves}
 use Rattle.law_formed.specs.Holds.{Holds}
 use Rattle.law_append.specs.Inserted.{verdict}
-use Rattle.law_ledger.specs.Sizes.{treeHeight, treeNodes, neededNodes}
+use Rattle.law_ledger.specs.Sizes.{treeHeight, treeSize, neededNodes}
 
 -- "Answer: start, end, nodes taken", or 4, 6, 5 in this order; the range begins where the ledger ends
 pub record InsertLaw (L : Arrangement) (w : List ℕ) (l : Ledger) (k x : ℕ) : Type 0 where
@@ -29,7 +29,7 @@ pub record CutLaw (L : Arrangement) (w : List ℕ) (e : ℕ) (ids : List ℕ) (g
   pub levels : ℕ
   pub answer : o .answer ≡ result (length ids ∷ freed ∷ levels ∷ [])
   pub holds : Holds L (o .words) (record { start = e; ranges = gs })
-  pub nodes : freed ≡ treeNodes L w - treeNodes L (o .words)
+  pub nodes : freed ≡ treeSize L w - treeSize L (o .words)
   pub free : freeCount (o .words) ≡ freeCount w + freed
   pub collapsed : levels ≡ levelsGone (treeHeight L w) (treeHeight L (o .words)) gs
   pub lower : treeHeight L (o .words) ≤ treeHeight L w

@@ -9,8 +9,8 @@ use Rattle.law_append.specs.Needed.{needed}
 abbrev pub treeHeight : Arrangement → List ℕ → ℕ
 treeHeight L w = height (storeShape L w) w (root w)
 
-abbrev pub treeNodes : Arrangement → List ℕ → ℕ
-treeNodes L w = length (rootNodes (storeShape L w) w (root w))
+abbrev pub treeSize : Arrangement → List ℕ → ℕ
+treeSize L w = length (rootNodes (storeShape L w) w (root w))
 
 -- the nodes that an append needs, as 01 counts them
 abbrev pub neededNodes : Arrangement → List ℕ → ℕ

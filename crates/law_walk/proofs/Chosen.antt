@@ -23,7 +23,7 @@ use Rattle.tree_path.proofs.Down.{down, ends, root-empty, root-path}
 use Rattle.node_place.proofs.Places.{place-at, above-from, place-below}
 use Rattle.law_formed.proofs.Linked.{Meets}
 use Rattle.law_formed.proofs.Pairs.{all-both}
-use Rattle.law_walk.specs.Walking.{LeafAt, leaves, storeLeaves}
+use Rattle.law_walk.specs.Walking.{LeafAt, leavesOf, storeLeaves}
 use Rattle.law_walk.proofs.Lined.{Good, Lined, begun-lined, chosen-pair, chosenIn, chosenFrom, lowOf}
 
 abbrev pub leafOf : LeafAt → Reached
@@ -53,8 +53,8 @@ module _ (C : Shape) (P : ℕ) (w : List ℕ) where
       (pairsFrom C w (level C w (suc h)) n 0 (count C w n)) b (g .2) (all-made C w (level C w (suc h)) n 0 (count C w n) b)
 
   pub lined-tree : (h n r : ℕ) (b : Limit) → AllSound C P (suc h) (level C w (suc h) n) r b
-      → Lined C w (leaves h (level C w (suc h) n) r b) b × (lowOf (leaves h (level C w (suc h) n) r b) ≡ r)
-  unfolding AllSound leaves level Lined lowOf last
+      → Lined C w (leavesOf h (level C w (suc h) n) r b) b × (lowOf (leavesOf h (level C w (suc h) n) r b) ≡ r)
+  unfolding AllSound leavesOf level Lined lowOf last
   lined-tree zero n r b g =
       let s = soundly C 0 (level C w 1 n) r b (g .1) in
       let e = sound-ends C 0 (level C w 1 n) r b (g .1) in
@@ -68,15 +68,15 @@ module _ (C : Shape) (P : ℕ) (w : List ℕ) where
       } in
       ((good, (refl, sound-below C P 1 (level C w 1 n) r b g)), refl)
   lined-tree (suc h) n r b g =
-      begun-lined C w (leaves h) (Made h)
-      (λ x s c m. subst (λ (y : Level (suc h)). Lined C w (leaves h y s c) c × (lowOf (leaves h y s c) ≡ s)) (sym (m .1 .1))
+      begun-lined C w (leavesOf h) (Made h)
+      (λ x s c m. subst (λ (y : Level (suc h)). Lined C w (leavesOf h y s c) c × (lowOf (leavesOf h y s c) ≡ s)) (sym (m .1 .1))
       (lined-tree h (m .1 .0) s c (subst (λ (y : Level (suc h)). AllSound C P (suc h) y s c) (m .1 .1) (m .0))))
       r (pairsFrom C w (level C w (suc h)) n 0 (count C w n)) b
       (sound-begins C (suc h) (level C w (suc (suc h)) n) r b (g .1)) (made-pairs h n r b g)
 
-  lined-made : (h : ℕ) (x : Level (suc h)) (r : ℕ) (b : Limit) → Made h x r b → Lined C w (leaves h x r b) b × (lowOf (leaves h x r b) ≡ r)
+  lined-made : (h : ℕ) (x : Level (suc h)) (r : ℕ) (b : Limit) → Made h x r b → Lined C w (leavesOf h x r b) b × (lowOf (leavesOf h x r b) ≡ r)
   lined-made h x r b m =
-      subst (λ (y : Level (suc h)). Lined C w (leaves h y r b) b × (lowOf (leaves h y r b) ≡ r)) (sym (m .1 .1))
+      subst (λ (y : Level (suc h)). Lined C w (leavesOf h y r b) b × (lowOf (leavesOf h y r b) ≡ r)) (sym (m .1 .1))
       (lined-tree h (m .1 .0) r b (subst (λ (y : Level (suc h)). AllSound C P (suc h) y r b) (m .1 .1) (m .0)))
 
   -- The place of a row, going forth from the first entry ------------------------------------------------------
@@ -126,9 +126,9 @@ module _ (C : Shape) (P : ℕ) (w : List ℕ) where
 
   module _ (q : ℕ) where
     chosen-node : (h n r : ℕ) (b : Limit) → AllSound C P (suc (suc h)) (level C w (suc (suc h)) n) r b
-        → chosenIn q (leaves (suc h) (level C w (suc (suc h)) n) r b)
-        ≡ (let i = toRow C w q n in chosenIn q (leaves h (level C w (suc h) (child C w n i)) (row C w n i) (nextRow C w n i b)))
-    unfolding leaves level nextRow pairsFrom
+        → chosenIn q (leavesOf (suc h) (level C w (suc (suc h)) n) r b)
+        ≡ (let i = toRow C w q n in chosenIn q (leavesOf h (level C w (suc h) (child C w n i)) (row C w n i) (nextRow C w n i b)))
+    unfolding leavesOf level nextRow pairsFrom
     chosen-node h n r b g = go (count C w n) refl
       where
         good : sound C (suc h) (nodeAt C w n) r b ≡ true
@@ -138,17 +138,17 @@ module _ (C : Shape) (P : ℕ) (w : List ℕ) where
         up = holds _ (sym (sound-if C w n (suc h) r b (facts C w n (suc h) r b good)) ∙ good)
 
         go : (k : ℕ) → count C w n ≡ k
-            → chosenIn q (overPairs (leaves h) (pairsFrom C w (level C w (suc h)) n 0 (count C w n)) b)
-            ≡ (let i = toRow C w q n in chosenIn q (leaves h (level C w (suc h) (child C w n i)) (row C w n i) (pick (ltb (i + 1) (count C w n)) (Below (row C w n (i + 1))) b)))
+            → chosenIn q (overPairs (leavesOf h) (pairsFrom C w (level C w (suc h)) n 0 (count C w n)) b)
+            ≡ (let i = toRow C w q n in chosenIn q (leavesOf h (level C w (suc h) (child C w n i)) (row C w n i) (pick (ltb (i + 1) (count C w n)) (Below (row C w n (i + 1))) b)))
         go zero e = absurd (omega (arith, some (suc h) n r b g))
         go (suc k) e =
             let long : 0 + 1 + k ≡ count C w n = omega (arith, e) in
             let place : forth C w n q 0 k ≡ toRow C w q n =
             forth-is q n k (subst (λ (c : ℕ). T (rising (pairsFrom C w (λ (x : ℕ). x) n 0 c))) e up) ∙ ap (lastNotAbove C w q n) (sym e) in
-            ap (λ (c : ℕ). chosenIn q (overPairs (leaves h) (pairsFrom C w (level C w (suc h)) n 0 c) b)) e
-            ∙ chosen-pair C w (leaves h) (Made h) (lined-made h) q (row C w n 0, level C w (suc h) (child C w n 0)) (pairsFrom C w (level C w (suc h)) n (0 + 1) k) b
+            ap (λ (c : ℕ). chosenIn q (overPairs (leavesOf h) (pairsFrom C w (level C w (suc h)) n 0 c) b)) e
+            ∙ chosen-pair C w (leavesOf h) (Made h) (lined-made h) q (row C w n 0, level C w (suc h) (child C w n 0)) (pairsFrom C w (level C w (suc h)) n (0 + 1) k) b
             (subst (λ (c : ℕ). allPairs (Made h) (pairsFrom C w (level C w (suc h)) n 0 c) b) e (made-pairs h n r b g))
-            ∙ ap (λ (c : Chosen (Level (suc h))). chosenIn q (leaves h (c .what) (c .low) (c .high))) (choose-at C w n q (level C w (suc h)) b 0 k)
+            ∙ ap (λ (c : Chosen (Level (suc h))). chosenIn q (leavesOf h (c .what) (c .low) (c .high))) (choose-at C w n q (level C w (suc h)) b 0 k)
             ∙ rw (place, long)
 
     child-sound : (h n r : ℕ) (b : Limit) → AllSound C P (suc (suc h)) (level C w (suc (suc h)) n) r b
@@ -162,8 +162,8 @@ module _ (C : Shape) (P : ℕ) (w : List ℕ) where
         (omega (arith, place-below C w n q (count C w n) (some (suc h) n r b g))))
 
     reach : (h m n r : ℕ) (b : Limit) → AllSound C P (suc h) (level C w (suc h) n) r b
-        → descend (toRow C w q) C P w h m n r b ≡ leafOf (chosenIn q (leaves h (level C w (suc h) n) r b))
-    unfolding leaves chosenIn chosenFrom level
+        → descend (toRow C w q) C P w h m n r b ≡ leafOf (chosenIn q (leavesOf h (level C w (suc h) n) r b))
+    unfolding leavesOf chosenIn chosenFrom level
     reach zero m n r b g = ends (toRow C w q) C P w m n r b 0 (omega arith) (inside 0 n r b g) (in-words 0 n r b g)
     reach (suc h) m n r b g =
         let i = toRow C w q n in
@@ -179,13 +179,13 @@ module _ (C : Shape) (P : ℕ) (w : List ℕ) where
   abbrev n : ℕ
   n = root w
 
-  empty-one : (h r : ℕ) (b : Limit) → h ≡ 0 → leaves h (level C w (suc h) n) r b ≡ record { number = n; low = r; next = b; pairs = pairsFrom C w (level C w 0) n 0 (count C w n) } ∷ []
-  unfolding leaves level
+  empty-one : (h r : ℕ) (b : Limit) → h ≡ 0 → leavesOf h (level C w (suc h) n) r b ≡ record { number = n; low = r; next = b; pairs = pairsFrom C w (level C w 0) n 0 (count C w n) } ∷ []
+  unfolding leavesOf level
   empty-one zero r b e = refl
   empty-one (suc h) r b e = absurd (omega arith)
 
   abbrev rootLeaves : List LeafAt
-  rootLeaves = leaves (height C w n) (rootTree C w n) (start C w n) Open
+  rootLeaves = leavesOf (height C w n) (rootTree C w n) (start C w n) Open
 
   root-lined : SoundRoot C P w (height C w n) n → Lined C w rootLeaves Open × (lowOf rootLeaves ≡ start C w n)
   unfolding Lined Under Meets lowOf level

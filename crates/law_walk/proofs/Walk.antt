@@ -24,7 +24,7 @@ use Rattle.law_formed.proofs.Linked.{Meets}
 use Rattle.law_formed.proofs.Opens.{goes-on}
 use Rattle.model.proofs.Fill.{length-fill}
 use Rattle.next_records.proofs.Filling.{length-records}
-use Rattle.law_walk.specs.Walking.{LeafAt, leaves, storeLeaves, leafCount, pairOf, firstPairs, Gives, ended, one, From}
+use Rattle.law_walk.specs.Walking.{LeafAt, leavesOf, storeLeaves, leafCount, pairOf, firstPairs, Gives, ended, one, From}
 use Rattle.next_step.proofs.Stepping.{still}
 use Rattle.law_walk.proofs.Lined.{Good, Lined, Split, chosenIn, first-chosen, lined-good, lined-rest, lowOf, own, split}
 use Rattle.law_walk.proofs.Chosen.{leafOf, store-full, store-lined, store-reach}
@@ -61,10 +61,10 @@ over-joined f g e (p ∷ ps) b =
     ∙ rw (e (p .1) (p .0) (next ps b), over-joined f g e ps b)
     (sym (joined-append (g (p .1) (p .0) (next ps b)) (overPairs g ps b)))
 
-tree-joined : (h : ℕ) (t : Level (suc h)) (r : ℕ) (b : Limit) → map lowPage (entries (suc h) t r b) ≡ joined (leaves h t r b)
-unfolding entries leaves joined last
+tree-joined : (h : ℕ) (t : Level (suc h)) (r : ℕ) (b : Limit) → map lowPage (entries (suc h) t r b) ≡ joined (leavesOf h t r b)
+unfolding entries leavesOf joined last
 tree-joined zero t r b = leaf-joined (t .pairs) (Below (t .end)) ∙ sym (append-nil (t .pairs))
-tree-joined (suc h) t r b = over-joined (entries (suc h)) (leaves h) (tree-joined h) (t .pairs) b
+tree-joined (suc h) t r b = over-joined (entries (suc h)) (leavesOf h) (tree-joined h) (t .pairs) b
 
 pub from-walk : (s : ℕ) (gs : List Range) → map lowPage (entriesFrom s gs) ≡ walkFrom s gs
 unfolding entriesFrom walkFrom

@@ -20,12 +20,12 @@ pub record LeafAt : Type 0 where
   pub next : Limit
   pub pairs : List (ℕ × ℕ)
 
-unfoldable pub leaves : (h : ℕ) → Level (suc h) → ℕ → Limit → List LeafAt
-leaves zero t r b = record { number = t .number; low = r; next = b; pairs = t .pairs } ∷ []
-leaves (suc h) t r b = overPairs (leaves h) (t .pairs) b
+unfoldable pub leavesOf : (h : ℕ) → Level (suc h) → ℕ → Limit → List LeafAt
+leavesOf zero t r b = record { number = t .number; low = r; next = b; pairs = t .pairs } ∷ []
+leavesOf (suc h) t r b = overPairs (leavesOf h) (t .pairs) b
 
 abbrev pub storeLeaves : List ℕ → List LeafAt
-storeLeaves w = let C = storeShape lent w in leaves (height C w (root w)) (rootTree C w (root w)) (start C w (root w)) Open
+storeLeaves w = let C = storeShape lent w in leavesOf (height C w (root w)) (rootTree C w (root w)) (start C w (root w)) Open
 
 -- how many there are
 abbrev pub leafCount : List ℕ → ℕ
