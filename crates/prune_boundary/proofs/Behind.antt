@@ -16,6 +16,7 @@ use Rattle.model.specs.declared.path.Position.{Position}
 use Rattle.model.specs.declared.path.Path.{Path}
 use Rattle.model.proofs.Tests.{holds, and-l, by-test}
 use Rattle.model.proofs.Sound.{soundly, sound-at}
+use Rattle.model.proofs.Frame.{length-pairs}
 use Rattle.model.proofs.Paths.{stack-pop}
 use Rattle.model.proofs.Writes.{pairs-snoc}
 use Rattle.law_formed.proofs.Clean.{leaf-rises}
@@ -44,6 +45,10 @@ module _ (C : Shape) (P : ℕ) (w : List ℕ) where
   pub tall : (h n : ℕ) (up : List Position) → Passed C P w h n up → height C w n ≡ h
   unfolding level
   tall h n up p = soundly C h (level C w (suc h) n) (start C w n) (bound C w up) (p .good) .high
+
+  pub few : (h n : ℕ) (up : List Position) → Passed C P w h n up → count C w n ≤ C .cap
+  unfolding level
+  few h n up p = omega (arith, soundly C h (level C w (suc h) n) (start C w n) (bound C w up) (p .good) .many, length-pairs C w (level C w h) n 0 (count C w n))
 
   -- no entry is done
   pub done-none : (h n : ℕ) (up : List Position) → Done C P w h n 0 up

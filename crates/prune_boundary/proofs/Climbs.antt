@@ -1,19 +1,17 @@
 -- From the leaf of the last entry named up to the first node that keeps an entry, or the root.
-use Prim.Native.Nat.{ℕ, zero, suc, _+_, _-_, _<_, _≤_}
+use Prim.Native.Nat.{ℕ, suc, _+_, _-_, _<_, _≤_}
 use mathlib.Core.List.{List, [], _∷_, _++_, append-nil}
 use mathlib.Core.Bool.{false}
 use mathlib.Core.Path.{_≡_, refl, sym, ap, _∙_, subst}
 use mathlib.Core.Logic.{inr}
 use native.Mathlib.Omega.{arith}
-use lib.ListN.{getD, set, length, length-set, length-append, take}
+use lib.ListN.{set, length, length-set, length-append, take}
 use lib.Seq.{getD-set-same}
-use lib.Dec.{ltb}
 use borrow.Author.Tests.{lt-ltb}
-use Rattle.model.specs.Words.{Shape, pick, height, count, start, row}
-use Rattle.model.specs.Tree.{Below, level}
+use Rattle.model.specs.Words.{Shape, height, count, row}
 use Rattle.model.specs.Reading.{Visit, Leave, occ, rootNodes}
 use Rattle.model.specs.Cut.{cutPairs, cut, wentPairs, went}
-use Rattle.model.specs.Paths.{noPosition, stack, trail, lastOf, above}
+use Rattle.model.specs.Paths.{noPosition, trail, lastOf, above}
 use Rattle.model.specs.declared.path.Position.{Position}
 use Rattle.model.specs.declared.path.Path.{Path}
 use Rattle.model.proofs.Paths.{stack-pop, stack-set, stack-none, stack-turn}
@@ -28,14 +26,13 @@ use Rattle.tree_turn.proofs.Moves.{leaf-move, end-move}
 use Rattle.tree_turn.proofs.InPlace.{popped}
 use Rattle.tree_turn.proofs.Trace.{walked-out}
 use Rattle.prune_boundary.specs.Behind.{Above, Behind}
-use Rattle.prune_leaf.specs.Progress.{Last}
 use Rattle.prune_boundary.specs.Edge.{Meets, at, firstPairs, firstNodes, wentOf, Stays, trimsUp, trimsOn, Cutting, Ended, Climbed}
 use Rattle.prune_boundary.proofs.Behind.{tall, at-last}
 use Rattle.prune_boundary.proofs.Goes.{all-went}
 use Rattle.prune_boundary.proofs.Boundary.{stays-here, stays-root, cutting-up, cutting-leaf}
 use Rattle.prune_boundary.proofs.Went.{went-leaf, went-popped, went-first}
-use Rattle.prune_boundary.proofs.Joined.{stack-length, top-height, edge-spine}
-use Rattle.prune_boundary.proofs.Distinct.{firstsOf, spine-each, spine-inside}
+use Rattle.prune_boundary.proofs.Joined.{stack-length, top-height}
+use Rattle.prune_boundary.proofs.Distinct.{none, firstsOf, edge-stands}
 
 -- the path with the entries named in its leaf
 abbrev pub marked : Path → ℕ → Path
@@ -48,12 +45,9 @@ path-firsts m [] T = omega arith
 path-firsts m (q ∷ up) T = omega (arith, path-firsts m up ((q .node .0, q .index - 1) ∷ T), occ-cons m (q .node .0) (firstsOf T), occ-cons m (q .node .0) (onPath up))
 
 module _ (C : Shape) (P : ℕ) (w : List ℕ) (e root : ℕ) where
-  height-fits : (h n k : ℕ) (up : List Position) → Cutting C w P e root h n k up → height C w n ≡ h
-  unfolding Behind
-  height-fits h n k up c = tall C P w h n up (c .behind .passed)
-
   fits : (h : ℕ) (q : Position) (up : List Position) → Cutting C w P e root h (q .node .0) (q .index) up → Cutting C w P e root (height C w (q .node .0)) (q .node .0) (q .index) up
-  fits h q up c = subst (λ (j : ℕ). Cutting C w P e root j (q .node .0) (q .index) up) (sym (height-fits h (q .node .0) (q .index) up c)) c
+  unfolding Behind
+  fits h q up c = rw (tall C P w h (q .node .0) up (c .behind .passed)) c
 
   module _ (p : Path) (u k : ℕ) (d : Ended C P w e root p u k) where
     abbrev n : ℕ
@@ -193,11 +187,10 @@ module _ (C : Shape) (P : ℕ) (w : List ℕ) (e root : ℕ) where
     pub edge-once : (m : ℕ) → occ m (root ∷ enters (c .seen)) ≤ 1
     unfolding firstsOf onPath
     edge-once m =
-        let s = edge-spine C P w e root p c in
         let q = lastOf p in
         omega (
           arith,
-          spine-each C P w m (s .0) (trimsOn p) (s .1),
+          edge-stands C P w e root p c .1 .each m,
           c .walked .held m,
           ap (λ (ns : List ℕ). occ m ns) (c .went),
           path-firsts m (above p) ((q .node .0, q .index) ∷ []),
@@ -208,8 +201,8 @@ module _ (C : Shape) (P : ℕ) (w : List ℕ) (e root : ℕ) where
     -- they are few
     pub edge-few : length (wentOf C w (trimsOn p)) ≤ P
     edge-few =
-        let s = edge-spine C P w e root p c in
-        most (wentOf C w (trimsOn p)) P (λ m l. spine-inside C P w m l (s .0) (trimsOn p) (s .1)) (λ m. (let o = spine-each C P w m (s .0) (trimsOn p) (s .1) in omega arith))
+        let s = edge-stands C P w e root p c .1 in
+        most (wentOf C w (trimsOn p)) P (λ m l. none _ (λ o. omega (arith, s .near m (omega arith) .1))) (λ m. (let o = s .each m in omega arith))
 
     -- and the first in postorder
     pub edge-first : take (length (wentOf C w (trimsOn p))) (rootNodes C w root) ≡ wentOf C w (trimsOn p)
