@@ -44,12 +44,12 @@ unfolding trimsUp onPath firstsOf occ
 path-firsts m [] T = omega arith
 path-firsts m (q ∷ up) T = omega (arith, path-firsts m up ((q .node .0, q .index - 1) ∷ T), occ-cons m (q .node .0) (firstsOf T), occ-cons m (q .node .0) (onPath up))
 
-module _ (C : Shape) (P : ℕ) (w : List ℕ) (e root : ℕ) where
+module _ {C : Shape} {P : ℕ} {w : List ℕ} {e root : ℕ} where
   fits : (h : ℕ) (q : Position) (up : List Position) → Cutting C w P e root h (q .node .0) (q .index) up → Cutting C w P e root (height C w (q .node .0)) (q .node .0) (q .index) up
   unfolding Behind
   fits h q up c = rw (tall C P w h (q .node .0) up (c .behind .passed)) c
 
-  module _ (p : Path) (u k : ℕ) (d : Ended C P w e root p u k) where
+  module _ {p : Path} {u k : ℕ} (d : Ended C P w e root p u k) where
     abbrev n : ℕ
     n = lastOf p .node .0
 
@@ -116,7 +116,7 @@ module _ (C : Shape) (P : ℕ) (w : List ℕ) (e root : ℕ) where
           went = went-marked;
         }
 
-  module _ (p : Path) (c : Climbed C P w e root p) where
+  module _ {p : Path} (c : Climbed C P w e root p) where
     -- a node all of whose entries go
     module _ (l : 1 < p .depth) (m : count C w (lastOf p .node .0) ≤ lastOf p .index) where
       over : above p ≡ lastOf (popped p) ∷ above (popped p)
@@ -190,7 +190,7 @@ module _ (C : Shape) (P : ℕ) (w : List ℕ) (e root : ℕ) where
         let q = lastOf p in
         omega (
           arith,
-          edge-stands C P w e root p c .1 .each m,
+          edge-stands c .1 .each m,
           c .walked .held m,
           ap (λ (ns : List ℕ). occ m ns) (c .went),
           path-firsts m (above p) ((q .node .0, q .index) ∷ []),
@@ -201,7 +201,7 @@ module _ (C : Shape) (P : ℕ) (w : List ℕ) (e root : ℕ) where
     -- they are few
     pub edge-few : length (wentOf C w (trimsOn p)) ≤ P
     edge-few =
-        let s = edge-stands C P w e root p c .1 in
+        let s = edge-stands c .1 in
         most (wentOf C w (trimsOn p)) P (λ m l. none _ (λ o. omega (arith, s .near m (omega arith) .1))) (λ m. (let o = s .each m in omega arith))
 
     -- and the first in postorder

@@ -149,14 +149,14 @@ module _ (C : Shape) (P : ℕ) (w : List ℕ) where
       (λ x o. let z = s .near x o in (omega (arith, z .0), z .1, omega (arith, z .2, d .2, a .begins), λ (v : start C w x < row C w m j). omega (arith, v, z .2, a .begins)))
       e (λ x y (v : y < row C w m j). omega (arith, v, a .begins)) (s .early) (λ x. d .0) (s .trimmed))
 
-  -- the law
-  pub edge-stands : (e root : ℕ) (p : Path) → Climbed C P w e root p → (x : ℕ) × Standing (lastOf p .index < count C w (lastOf p .node .0)) e x root (trimsOn p)
-  unfolding Behind Done Meets Under Trims firstsOf wentOf
-  edge-stands e root p c =
-      let n = lastOf p .node .0 in
-      let k = lastOf p .index in
-      let b = c .cutting .behind in
-      stands-up e root (height C w n) n (above p) ((n, k) ∷ []) (b .above) (c .cutting .below)
-      (add (height C w n) n k (above p) [] (b .passed) (b .within) (limitAt C P w (height C w n) n k (above p)) (b .done) (λ m. omega (arith, occ-nil m)) (λ m o. absurd (omega (arith, o, occ-nil m)))
-      e (λ x s u. let v : s < row C w n k = rw (lt-ltb k (count C w n) x) at u in let q : e ≡ row C w n k = rw (lt-ltb k (count C w n) x) at (c .cutting .lands) in omega arith)
-      (λ x m o. absurd (omega (arith, o, occ-nil m))) (λ x. x) (λ x. tt))
+-- the law
+pub edge-stands : {C : Shape} {P : ℕ} {w : List ℕ} {e root : ℕ} {p : Path} → Climbed C P w e root p → (x : ℕ) × Standing C P w (lastOf p .index < count C w (lastOf p .node .0)) e x root (trimsOn p)
+unfolding Behind Done Meets Under Trims firstsOf wentOf
+edge-stands {C} {P} {w} {e} {root} {p} c =
+    let n = lastOf p .node .0 in
+    let k = lastOf p .index in
+    let b = c .cutting .behind in
+    stands-up C P w e root (height C w n) n (above p) ((n, k) ∷ []) (b .above) (c .cutting .below)
+    (add C P w (height C w n) n k (above p) [] (b .passed) (b .within) (limitAt C P w (height C w n) n k (above p)) (b .done) (λ m. omega (arith, occ-nil m)) (λ m o. absurd (omega (arith, o, occ-nil m)))
+    e (λ x s u. let v : s < row C w n k = rw (lt-ltb k (count C w n) x) at u in let q : e ≡ row C w n k = rw (lt-ltb k (count C w n) x) at (c .cutting .lands) in omega arith)
+    (λ x m o. absurd (omega (arith, o, occ-nil m))) (λ x. x) (λ x. tt))

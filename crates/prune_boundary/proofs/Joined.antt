@@ -36,19 +36,19 @@ module _ (C : Shape) (P : ℕ) (w : List ℕ) where
       (λ t. ahead-up root (suc h) (getD l d noPosition .node .0) l d (a .above) i (ltb-true i d t))
       (λ t. let e : i ≡ d = omega (arith, ltb-false i d t) in rw e (a .some))
 
-  -- The laws
-  module _ (e root : ℕ) (p : Path) (c : Climbed C P w e root p) where
-    abbrev n : ℕ
-    n = lastOf p .node .0
+-- The laws
+module _ {C : Shape} {P : ℕ} {w : List ℕ} {e root : ℕ} {p : Path} (c : Climbed C P w e root p) where
+  abbrev n : ℕ
+  n = lastOf p .node .0
 
-    pub depth-low : height C w n + p .depth ≤ 32
-    depth-low = valid-top C P w p (c .deep) (c .valid) .deep
+  pub depth-low : height C w n + p .depth ≤ 32
+  depth-low = valid-top C P w p (c .deep) (c .valid) .deep
 
-    pub root-high : height C w root ≡ height C w n + (p .depth - 1)
-    unfolding Behind
-    root-high = let b = c .cutting .behind in top-height root (height C w n) n (above p) (b .passed) (b .above) ∙ ap (λ (x : ℕ). height C w n + x) (stack-length (p .positions) (p .depth - 1))
+  pub root-high : height C w root ≡ height C w n + (p .depth - 1)
+  unfolding Behind
+  root-high = let b = c .cutting .behind in top-height C P w root (height C w n) n (above p) (b .passed) (b .above) ∙ ap (λ (x : ℕ). height C w n + x) (stack-length (p .positions) (p .depth - 1))
 
-    -- all positions but the last stand after an entry
-    pub edge-ahead : (i : ℕ) → i < p .depth - 1 → 1 ≤ getD (p .positions) i noPosition .index
-    unfolding Behind
-    edge-ahead i m = ahead-up root (height C w n) n (p .positions) (p .depth - 1) (c .cutting .behind .above) i m
+  -- all positions but the last stand after an entry
+  pub edge-ahead : (i : ℕ) → i < p .depth - 1 → 1 ≤ getD (p .positions) i noPosition .index
+  unfolding Behind
+  edge-ahead i m = ahead-up C P w root (height C w n) n (p .positions) (p .depth - 1) (c .cutting .behind .above) i m

@@ -51,7 +51,7 @@ module _ {C : Shape} {P : ℕ} {w : List ℕ} {e root f j : ℕ} {edge : Path} (
   climbed = E .topped .climbed
 
   levels : E .from .depth ≤ h + 1
-  levels = omega (arith, root-high C P w e root (E .from) climbed, climbed .deep)
+  levels = omega (arith, root-high climbed, climbed .deep)
 
   last-is : lastOf edge ≡ lastOf (E .from)
   last-is = settled-last (E .from) edge (h + 1) (E .settled) (climbed .deep) levels
@@ -64,13 +64,13 @@ module _ {C : Shape} {P : ℕ} {w : List ℕ} {e root f j : ℕ} {edge : Path} (
 
   -- what the code asks of an edge
   pub shaped : (0 < edge .depth) × (edge .depth ≤ 32) × (length (edge .positions) ≡ 32)
-  shaped = let d = E .settled .depth-is in (omega (arith, d, climbed .deep), omega (arith, d, depth-low C P w e root (E .from) climbed), E .settled .long)
+  shaped = let d = E .settled .depth-is in (omega (arith, d, climbed .deep), omega (arith, d, depth-low climbed), E .settled .long)
 
   pub none-below : NoneBelow edge (height C w root + 1)
   none-below = settled-none (E .from) edge (h + 1) (E .settled) (climbed .deep) levels
 
   pub last-in : lastOf edge .node .0 < P
-  last-in = rw last-is (node-in C P w e root (E .from) climbed)
+  last-in = rw last-is (node-in climbed)
 
   pub sound-top : SoundTop C P w root
   sound-top = record { inside = R .inside; low = R .low; good = R .good }
@@ -79,10 +79,10 @@ module _ {C : Shape} {P : ℕ} {w : List ℕ} {e root f j : ℕ} {edge : Path} (
   count-is = E .topped .counted ∙ ap (λ (ns : List ℕ). length ns) (sym went-is)
 
   pub count-few : j ≤ 65535
-  count-few = omega (arith, E .topped .counted, edge-few C P w e root (E .from) climbed, R .header .pool-high)
+  count-few = omega (arith, E .topped .counted, edge-few climbed, R .header .pool-high)
 
   stands : (x : ℕ) × Standing C P w (lastOf (E .from) .index < count C w (lastOf (E .from) .node .0)) e x root (trimsOf edge)
-  stands = rw trims-is (edge-stands C P w e root (E .from) climbed)
+  stands = rw trims-is (edge-stands climbed)
 
   untouched : Untouched G (trimsOf edge)
   untouched = untouched-of G (trimsOf edge) (stands .1 .each)
@@ -92,7 +92,7 @@ module _ {C : Shape} {P : ℕ} {w : List ℕ} {e root f j : ℕ} {edge : Path} (
   root-valid = let g = facts C w root h (start C w root) Open (R .good) in record { inside = R .inside; high = refl; within = zero-le; narrow = g .many; above = omega (arith, R .low) }
 
   firsts : take j (rootNodes C w root) ≡ G
-  firsts = ap (λ (k : ℕ). take k (rootNodes C w root)) (E .topped .counted) ∙ edge-first C P w e root (E .from) climbed ∙ sym went-is
+  firsts = ap (λ (k : ℕ). take k (rootNodes C w root)) (E .topped .counted) ∙ edge-first climbed ∙ sym went-is
 
   pub resettable : j ≤ P - f → Resettable C P w root edge j
   resettable l =
@@ -104,7 +104,7 @@ module _ {C : Shape} {P : ℕ} {w : List ℕ} {e root f j : ℕ} {edge : Path} (
           after = left false C P w (E .from);
           parts = climbed .walked .one;
           all-clean = climbed .walked .all-clean;
-          once-each = edge-once C P w e root (E .from) climbed;
+          once-each = edge-once climbed;
           are = climbed .went ∙ sym went-is ∙ sym firsts;
           many = ap (λ (ns : List ℕ). length ns) (climbed .went) ∙ sym (E .topped .counted);
           room = omega (arith, l, R .header .pool-high, R .free, R .free-in);
@@ -127,7 +127,7 @@ module _ {C : Shape} {P : ℕ} {w : List ℕ} {e root f j : ℕ} {edge : Path} (
   unfolding pruneWith rootCopies pruneTree trim ifGone level resetTo
   whole-is a k =
       let b = subst (λ (q : Position). count C w (q .node .0) ≤ q .index) last-is a in
-      let q = edge-whole C P w e root (E .from) climbed b (E .topped .whole b) in
+      let q = edge-whole climbed b (E .topped .whole b) in
       let g = q .1 ∙ sym went-is in
       let z : cutPairs e (cut h e) (tree .pairs) ≡ [] = q .0 in
       rw (z, z, g, add-zero (length G))
@@ -138,16 +138,16 @@ module _ {C : Shape} {P : ℕ} {w : List ℕ} {e root f j : ℕ} {edge : Path} (
     kept = rw last-is at m
 
     trims-are : trims (suc h) e tree (start C w root) ≡ trimsOf edge
-    trims-are = edge-stays C P w e root (E .from) climbed kept .trimmed ∙ sym trims-is
+    trims-are = edge-stays climbed kept .trimmed ∙ sym trims-is
 
     pub stays-is : (k : ℕ) → pruneWith C P w root h e tree k (rootCopies C P h e tree) ≡ cutTo C P w root e k (trimsOf edge) (copiesFrom C P h e tree (start C w root))
     unfolding pruneWith rootCopies pruneTree trim ifGone level cutTo
     stays-is k = by-copies (copiesFrom C P h e tree (start C w root)) refl
       where
         by-copies : (c : Copies) → copiesFrom C P h e tree (start C w root) ≡ c → pruneWith C P w root h e tree k (rootCopies C P h e tree) ≡ cutTo C P w root e k (trimsOf edge) c
-        by-copies (unsound x) z = let s = edge-stays C P w e root (E .from) climbed kept in rw (s .left, z)
+        by-copies (unsound x) z = let s = edge-stays climbed kept in rw (s .left, z)
         by-copies (copies ns) z =
-            let s = edge-stays C P w e root (E .from) climbed kept in
+            let s = edge-stays climbed kept in
             let g = s .gone ∙ sym went-is in
             let y : cutPairs e (cut h e) (tree .pairs) ≡ s .first ∷ s .others = s .left in
             rw (y, z, y, g, trims-are)
