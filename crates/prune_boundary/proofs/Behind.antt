@@ -23,7 +23,7 @@ use Rattle.law_formed.proofs.Clean.{leaf-rises}
 use Rattle.tree_turn.specs.Left.{bound, lowest}
 use Rattle.tree_turn.specs.Turn.{hasChild}
 use Rattle.tree_turn.proofs.Rest.{bound-turned}
-use Rattle.tree_turn.proofs.Tests.{branch}
+use Rattle.tree_turn.proofs.Tests.{branch, no-more}
 use Rattle.tree_turn.proofs.Branch.{Went}
 use Rattle.tree_turn.proofs.InPlace.{popped, enteredPath}
 use Rattle.prune_boundary.specs.Behind.{Passed, limitAt, Done, Above, Behind, BehindPath}
@@ -143,14 +143,6 @@ module _ (C : Shape) (P : ℕ) (w : List ℕ) where
           above = b .above;
         };
       }
-
--- a node that has no more children is a leaf, or all its entries are done
-pub no-more : (C : Shape) (w : List ℕ) (n i : ℕ) → hasChild C w n i ≡ false → (height C w n ≡ 0) ⊎ (count C w n ≤ i)
-unfolding hasChild
-no-more C w n i e =
-    by-test (ltb 0 (height C w n))
-    (λ u. by-test (ltb i (count C w n)) (λ v. absurd (false≢true (sym e ∙ rw (u, v)))) (λ v. inr (ltb-false i (count C w n) v)))
-    (λ u. inl (omega (arith, ltb-false 0 (height C w n) u)))
 
 -- The same in the loop's terms -----------------------------------------------------------------------------
 module _ (C : Shape) (P : ℕ) (w : List ℕ) (root : ℕ) where
