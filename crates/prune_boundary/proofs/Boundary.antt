@@ -122,10 +122,8 @@ module _ (C : Shape) (P : ℕ) (w : List ℕ) where
         let below : start C w m < e = omega (arith, g .2, s .below, a .begins) in
         let z = pairs-go C P e (suc h) (goes C P e (suc h)) (row C w m k) (omega (arith, s .below, a .begins)) (firstPairs C w (suc h) m k) (g .1) in
         let st = stay-cut h n T₀ s in
-        let here : (j i : ℕ) → n ≡ j → start C w n ≡ i → (cut (suc h) e (level C w (suc h) j) i ≡ stays (st .0)) × (trims (suc h) e (level C w (suc h) j) i ≡ T₀) × (went (suc h) e (level C w (suc h) j) i ≡ wentOf C w T₀) =
-        λ j i x y. subst (λ (v : ℕ). (cut (suc h) e (level C w (suc h) v) i ≡ stays (st .0)) × (trims (suc h) e (level C w (suc h) v) i ≡ T₀) × (went (suc h) e (level C w (suc h) v) i ≡ wentOf C w T₀)) x
-        (subst (λ (v : ℕ). (cut (suc h) e (level C w (suc h) n) v ≡ stays (st .0)) × (trims (suc h) e (level C w (suc h) n) v ≡ T₀) × (went (suc h) e (level C w (suc h) n) v ≡ wentOf C w T₀)) y (st .1, s .trimmed, st .2)) in
-        let c = here (child C w m k) (row C w m k) (a .leads) (a .begins) in
+        let c : (cut (suc h) e (level C w (suc h) (child C w m k)) (row C w m k) ≡ stays (st .0)) × (trims (suc h) e (level C w (suc h) (child C w m k)) (row C w m k) ≡ T₀) × (went (suc h) e (level C w (suc h) (child C w m k)) (row C w m k) ≡ wentOf C w T₀) =
+        rw (← a .leads, ← a .begins) (st .1, s .trimmed, st .2) in
         record {
           first = _;
           others = _;
@@ -180,34 +178,28 @@ module _ (C : Shape) (P : ℕ) (w : List ℕ) where
         let full : count C w n ≡ k = omega (arith, c .behind .within) in
         let d = led root h n q up a in
         let z = pairs-go C P e (suc h) (goes C P e (suc h)) (row C w m j) (omega (arith, c .below, a .begins)) (firstPairs C w (suc h) m j) (d .1) in
-        let g : cut (suc h) e (level C w (suc h) (child C w m j)) (row C w m j) ≡ gone =
-        subst (λ (v : ℕ). cut (suc h) e (level C w (suc h) v) (row C w m j) ≡ gone) (a .leads) (subst (λ (v : ℕ). cut (suc h) e (level C w (suc h) n) v ≡ gone) (a .begins) (all-gone h n k full (c .below) (c .gone))) in
+        let g : cut (suc h) e (level C w (suc h) (child C w m j)) (row C w m j) ≡ gone = rw (← a .leads, ← a .begins) (all-gone h n k full (c .below) (c .gone)) in
         let y : q .index ≡ suc j = omega (arith, a .some) in
         record {
           behind = behind-out C P w root h (at n k) (q ∷ up) (c .behind) (inr l);
           some = a .some;
           below = omega (arith, d .2, c .below, a .begins);
           lands = up-lands root h n k q up c l;
-          gone = subst (λ (v : ℕ). cutPairs e (cut (suc h) e) (firstPairs C w (suc h) m v) ≡ []) (sym y)
-              (ap (cutPairs e (cut (suc h) e)) (pairs-snoc C w (level C w (suc h)) m 0 j)
-              ∙ cut-snoc (suc h) (firstPairs C w (suc h) m j) (row C w m (0 + j)) (level C w (suc h) (child C w m (0 + j))) z (subst (λ (v : ℕ). cut (suc h) e (level C w (suc h) (child C w m v)) (row C w m v) ≡ gone) (sym (zero-add j)) g));
+          gone = rw (y, pairs-snoc C w (level C w (suc h)) m 0 j, zero-add j) (cut-snoc (suc h) (firstPairs C w (suc h) m j) (row C w m j) (level C w (suc h) (child C w m j)) z g);
         }
 
     -- the leaf of the last entry named
     all-front : {K : Type 0} (f : ℕ → K) (Q : K → ℕ → Limit → Type 0) (n i a b : ℕ) (x : Limit) → allPairs Q (pairsFrom C w f n i (a + b)) x → allPairs Q (pairsFrom C w f n i a) (next (pairsFrom C w f n (i + a) b) x)
     unfolding allPairs pairsFrom next
     all-front f Q n i zero b x g = tt
-    all-front f Q n i (suc zero) b x g =
-        let y : suc zero + b ≡ suc b = omega arith in
-        let g₂ = subst (λ (c : ℕ). allPairs Q (pairsFrom C w f n i c) x) y g in
-        (g₂ .0, tt)
+    all-front f Q n i (suc zero) b x g = let y : suc zero + b ≡ suc b = omega arith in ((rw y at g) .0, tt)
     all-front f Q n i (suc (suc a)) b x g =
         let y : suc (suc a) + b ≡ suc (suc (a + b)) = omega arith in
         let v : i + 1 + suc a ≡ i + suc (suc a) = omega arith in
         let u : suc (a + b) ≡ suc a + b = omega arith in
-        let g₂ = subst (λ (c : ℕ). allPairs Q (pairsFrom C w f n i c) x) y g in
+        let g₂ = rw y at g in
         let g₃ = all-front f Q n (i + 1) (suc a) b x (subst (λ (c : ℕ). allPairs Q (pairsFrom C w f n (i + 1) c) x) u (g₂ .1)) in
-        (g₂ .0, subst (λ (c : ℕ). allPairs Q (pairsFrom C w f n (i + 1) (suc a)) (next (pairsFrom C w f n c b) x)) v g₃)
+        (g₂ .0, rw v at g₃)
 
     next-limit : (n u : ℕ) (up : List Position) → u ≤ count C w n → next (pairsFrom C w (level C w 0) n (0 + u) (count C w n - u)) (Below (end C w n)) ≡ limitAt C P w 0 n u up
     unfolding next pairsFrom last
@@ -224,9 +216,7 @@ module _ (C : Shape) (P : ℕ) (w : List ℕ) where
     unfolding Done AllSound
     leaf-done n u up p l =
         let z : count C w n ≡ u + (count C w n - u) = omega arith in
-        let g : allPairs (AllSound C P 0) (firstPairs C w 0 n (count C w n)) (Below (end C w n)) = leaf-pairs n up p in
-        subst (λ (b : Limit). allPairs (AllSound C P 0) (firstPairs C w 0 n u) b) (next-limit n u up l)
-        (all-front (level C w 0) (AllSound C P 0) n 0 u (count C w n - u) (Below (end C w n)) (subst (λ (c : ℕ). allPairs (AllSound C P 0) (firstPairs C w 0 n c) (Below (end C w n))) z g))
+        rw (← next-limit n u up l) (all-front (level C w 0) (AllSound C P 0) n 0 u (count C w n - u) (Below (end C w n)) (rw z at (leaf-pairs n up p)))
 
     leaf-limit : (n u : ℕ) (up : List Position) → Last C w n u e → limitAt C P w 0 n u up ≡ Below e
     unfolding entryEnd last
@@ -246,11 +236,11 @@ module _ (C : Shape) (P : ℕ) (w : List ℕ) where
     cutting-leaf root n u i up b k =
         let d = leaf-done n u up (b .passed) (k .within) in
         let q = leaf-limit n u up k in
-        let a : allPairs (AllSound C P 0) (firstPairs C w 0 n u) (Below e) = subst (λ (x : Limit). allPairs (AllSound C P 0) (firstPairs C w 0 n u) x) q d in
+        let a : allPairs (AllSound C P 0) (firstPairs C w 0 n u) (Below e) = rw q at d in
         record {
           behind = record { within = k .within; passed = b .passed; done = d; above = b .above };
           some = k .some;
           below = omega (arith, row-low 0 n up (b .passed) 0 (omega arith), first-under n u e (k .some) a);
-          lands = subst (λ (x : Limit). Meets x e) (sym q) refl;
+          lands = rw q refl;
           gone = pairs-go C P e 0 (goes C P e 0) e (omega arith) (firstPairs C w 0 n u) a;
         }

@@ -2,7 +2,7 @@
 use Prim.Native.Nat.{ℕ, suc, _+_, _-_, _<_, _≤_}
 use mathlib.Core.List.{List, [], _∷_, _++_, append-nil}
 use mathlib.Core.Bool.{false}
-use mathlib.Core.Path.{_≡_, refl, sym, ap, _∙_, subst}
+use mathlib.Core.Path.{_≡_, refl, sym, ap, _∙_}
 use mathlib.Core.Logic.{inr}
 use native.Mathlib.Omega.{arith}
 use lib.ListN.{set, length, length-set, length-append, take}
@@ -86,14 +86,12 @@ module _ {C : Shape} {P : ℕ} {w : List ℕ} {e root : ℕ} where
         record {
           one = d .walked .one ∙ ap (λ (vs : List Visit). d .seen ++ vs) same-left;
           all-clean = d .walked .all-clean;
-          held = λ m. (d .walked .held m ∙ ap (λ (st : List Position). occ m (onPath st) + occ m (lefts (d .seen))) (stack-pop (p .positions) (p .depth) (d .deep)) ∙ ap (λ (st : List Position). occ m (onPath st) + occ m (lefts (d .seen))) (sym trail-is));
+          held = λ m. rw trail-is (rw (stack-pop (p .positions) (p .depth) (d .deep)) at (d .walked .held m));
         }
 
     -- the same nodes go
     pub went-marked : lefts (d .seen) ≡ wentOf C w (trimsOn (marked p u))
-    went-marked =
-        d .went ∙ went-leaf C P w (above p) n (lastOf p .index) u (d .last .leaf) ∙ ap (λ (st : List Position). wentOf C w (trimsUp st ((n, u) ∷ []))) (sym above-is)
-        ∙ ap (λ (q : Position). wentOf C w (trimsUp (above (marked p u)) ((q .node .0, q .index) ∷ []))) (sym last-is)
+    went-marked = rw (above-is, last-is) (d .went ∙ went-leaf C P w (above p) n (lastOf p .index) u (d .last .leaf))
 
     -- the path goes down to a leaf
     pub ended-high : height C w root + 1 ≡ p .depth
@@ -104,13 +102,13 @@ module _ {C : Shape} {P : ℕ} {w : List ℕ} {e root : ℕ} where
 
     pub start-climb : Climbed C P w e root (marked p u)
     start-climb =
-        let b : Behind C P w root 0 (at n (lastOf p .index) ∷ above p) = subst (λ (h : ℕ). Behind C P w root h (lastOf p ∷ above p)) (d .last .leaf) (at-last C P w root p (d .deep) (d .behind)) in
+        let b : Behind C P w root 0 (at n (lastOf p .index) ∷ above p) = rw (d .last .leaf) at (at-last C P w root p (d .deep) (d .behind)) in
         let c : Cutting C w P e root (height C w n) n u (above p) = fits 0 (record { node = lastOf p .node; index = u }) (above p) (cutting-leaf C P w e root n u (lastOf p .index) (above p) b (d .last)) in
         record {
           deep = d .deep;
           long = length-set (p .positions) (p .depth - 1) (record { node = lastOf p .node; index = u }) ∙ d .long;
           valid = valid-marked;
-          cutting = subst (λ (q : Position). Cutting C w P e root (height C w (q .node .0)) (q .node .0) (q .index) (above (marked p u))) (sym last-is) (subst (λ (st : List Position). Cutting C w P e root (height C w n) n u st) (sym above-is) c);
+          cutting = rw (last-is, above-is) c;
           seen = d .seen;
           walked = walked-is;
           went = went-marked;
@@ -132,7 +130,7 @@ module _ {C : Shape} {P : ℕ} {w : List ℕ} {e root : ℕ} where
       unfolding lefts
       climb =
           let q = lastOf (popped p) in
-          let d = cutting-up C P w e root (height C w (lastOf p .node .0)) (lastOf p .node .0) (lastOf p .index) q (above (popped p)) (subst (λ (st : List Position). Cutting C w P e root (height C w (lastOf p .node .0)) (lastOf p .node .0) (lastOf p .index) st) over (c .cutting)) m in
+          let d = cutting-up C P w e root (height C w (lastOf p .node .0)) (lastOf p .node .0) (lastOf p .index) q (above (popped p)) (rw over at (c .cutting)) m in
           record {
             deep = omega arith;
             long = c .long;
@@ -173,15 +171,9 @@ module _ {C : Shape} {P : ℕ} {w : List ℕ} {e root : ℕ} where
         let n = lastOf p .node .0 in
         let z : above p ≡ [] = stack-none (p .positions) (p .depth - 1) (omega arith) in
         let k : lastOf p .index ≡ count C w n = omega (arith, c .cutting .behind .within) in
-        let cu = subst (λ (st : List Position). Cutting C w P e root (height C w n) n (lastOf p .index) st) z (c .cutting) in
-        let r : n ≡ root = cu .behind .above in
-        let g : cutPairs e (cut (height C w n) e) (firstPairs C w (height C w n) n (count C w n)) ≡ [] = subst (λ (j : ℕ). cutPairs e (cut (height C w n) e) (firstPairs C w (height C w n) n j) ≡ []) k (c .cutting .gone) in
-        let went-all : wentPairs (cut (height C w n) e) (went (height C w n) e) (firstPairs C w (height C w n) n (count C w n)) ≡ wentOf C w (trimsOn p) =
-        all-went (height C w n) e (firstPairs C w (height C w n) n (count C w n)) g ∙ ap (λ (j : ℕ). firstNodes C w (height C w n) n j) (sym k) ∙ sym (append-nil (firstNodes C w (height C w n) n (lastOf p .index)))
-        ∙ ap (λ (st : List Position). wentOf C w (trimsUp st ((n, lastOf p .index) ∷ []))) (sym z) in (
-          subst (λ (m : ℕ). cutPairs e (cut (height C w m) e) (firstPairs C w (height C w m) m (count C w m)) ≡ []) r g,
-          subst (λ (m : ℕ). wentPairs (cut (height C w m) e) (went (height C w m) e) (firstPairs C w (height C w m) m (count C w m)) ≡ wentOf C w (trimsOn p)) r went-all,
-        )
+        let r : n ≡ root = (rw z at (c .cutting)) .behind .above in
+        let g : cutPairs e (cut (height C w n) e) (firstPairs C w (height C w n) n (count C w n)) ≡ [] = rw (← k) (c .cutting .gone) in
+        rw (← r) (g, all-went (height C w n) e (firstPairs C w (height C w n) n (count C w n)) g ∙ rw (z, k, append-nil (firstNodes C w (height C w n) n (count C w n))))
 
     -- each node was entered once
     pub edge-once : (m : ℕ) → occ m (root ∷ enters (c .seen)) ≤ 1
