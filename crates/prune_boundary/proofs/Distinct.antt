@@ -84,8 +84,8 @@ module _ (C : Shape) (P : ℕ) (w : List ℕ) where
         (λ x r₂ b₂ q. subst (λ (y : Level h). AllSound C P h y r₂ b₂ → occ m (nodes h y) ≤ 1) (sym (q .1 .1)) (once C P w m h (q .1 .0) r₂ b₂) (q .0))
         (row C w n 0) b (firstPairs C w h n (suc k)) (begins (level C w h (child C w n 0)) (pairsFrom C w (level C w h) n (0 + 1) k)) (held-pairs C P w h n 0 (suc k) b a)
 
-  -- The nodes T of an edge from node n of height h down, with those that go: the last of T keeps an entry where K holds,
-  -- and then what goes starts before e
+  -- The nodes T of an edge from node n of height h down, and those that go: each stands once. Where K holds, the last of T
+  -- keeps an entry, and what goes starts before e
   pub record Standing (K : Type 0) (e h n : ℕ) (T : List (ℕ × ℕ)) : Type 0 where
     pub each : (m : ℕ) → occ m (firstsOf T) + occ m (wentOf C w T) ≤ 1
     pub near : (m : ℕ) → 0 < occ m (firstsOf T) + occ m (wentOf C w T) → (height C w m ≤ h) × (m < P) × (start C w n ≤ start C w m)
@@ -94,7 +94,7 @@ module _ (C : Shape) (P : ℕ) (w : List ℕ) where
     pub trimmed : K → Trims C P w T
 
   -- node n, k of whose entries go, above the nodes T: these lie below it, after b
-  module _ (h n k : ℕ) (up : List Position) (T : List (ℕ × ℕ)) (p : Passed C P w h n up) (l : k ≤ count C w n) (b : Limit) (a : allPairs (AllSound C P h) (firstPairs C w h n k) b)
+  module _ (h n k : ℕ) (up : List Position) (T : List (ℕ × ℕ)) (p : Passed C P w h n up) (b : Limit) (a : allPairs (AllSound C P h) (firstPairs C w h n k) b)
       (each : (m : ℕ) → occ m (firstsOf T) + occ m (wentOf C w T) ≤ 1)
       (below : (m : ℕ) → 0 < occ m (firstsOf T) + occ m (wentOf C w T) → (height C w m < h) × (m < P) × (start C w n ≤ start C w m) × (Under (start C w m) b → ⊥)) where
     parts : (m : ℕ) → (occ m (firstsOf ((n, k) ∷ T)) ≡ occ m (n ∷ []) + occ m (firstsOf T)) × (occ m (wentOf C w ((n, k) ∷ T)) ≡ occ m (firstNodes C w h n k) + occ m (wentOf C w T))
@@ -145,7 +145,7 @@ module _ (C : Shape) (P : ℕ) (w : List ℕ) where
       let j = q .index - 1 in
       let d = led C P w root h n q up a in
       stands-up e root (suc h) m up ((m, j) ∷ T) (a .above) (omega (arith, d .2, a .begins))
-      (add (suc h) m j up T (a .passed) (omega (arith, d .0)) (Below (row C w m j)) (d .1) (s .each)
+      (add (suc h) m j up T (a .passed) (Below (row C w m j)) (d .1) (s .each)
       (λ x o. let z = s .near x o in (omega (arith, z .0), z .1, omega (arith, z .2, d .2, a .begins), λ (v : start C w x < row C w m j). omega (arith, v, z .2, a .begins)))
       e (λ x y (v : y < row C w m j). omega (arith, v, a .begins)) (s .early) (λ x. d .0) (s .trimmed))
 
@@ -157,6 +157,6 @@ edge-stands {C} {P} {w} {e} {root} {p} c =
     let k = lastOf p .index in
     let b = c .cutting .behind in
     stands-up C P w e root (height C w n) n (above p) ((n, k) ∷ []) (b .above) (c .cutting .below)
-    (add C P w (height C w n) n k (above p) [] (b .passed) (b .within) (limitAt C P w (height C w n) n k (above p)) (b .done) (λ m. omega (arith, occ-nil m)) (λ m o. absurd (omega (arith, o, occ-nil m)))
+    (add C P w (height C w n) n k (above p) [] (b .passed) (limitAt C P w (height C w n) n k (above p)) (b .done) (λ m. omega (arith, occ-nil m)) (λ m o. absurd (omega (arith, o, occ-nil m)))
     e (λ x s u. let v : s < row C w n k = rw (lt-ltb k (count C w n) x) at u in let q : e ≡ row C w n k = rw (lt-ltb k (count C w n) x) at (c .cutting .lands) in omega arith)
     (λ x m o. absurd (omega (arith, o, occ-nil m))) (λ x. x) (λ x. tt))
