@@ -1,15 +1,13 @@
 -- The node test in the terms of the code.
-use Prim.Native.Nat.{ℕ, zero, suc, _+_, _*_, _-_, _<_, _≤_}
+use Prim.Native.Nat.{ℕ, zero, suc, _+_, _-_, _<_, _≤_}
 use mathlib.Core.List.{List, [], _∷_}
 use mathlib.Core.Bool.{Bool, true, false, _&&_, _||_, and-false}
-use mathlib.Core.Logic.{⊎-elim}
 use mathlib.Core.Path.{_≡_, refl, sym, ap, _∙_, subst}
 use native.Mathlib.Omega.{arith}
-use native.Mathlib.Nat.{add-zero, eq-or-lt-of-le}
-use lib.ListN.{length}
-use lib.Dec.{T, leb, ltb, eqb, leb→le, eqb→eq}
+use native.Mathlib.Nat.{add-zero}
+use lib.Dec.{leb, ltb, eqb, leb→le, eqb→eq}
 use borrow.Author.Tests.{lt-ltb, le-ltb, le-leb, eq-eqb, ltb-true, ltb-false}
-use Rattle.model.specs.Words.{Shape, part, height, count, start, end, row, child, NONE}
+use Rattle.model.specs.Words.{Shape, height, count, start, end, row, child, NONE}
 use Rattle.model.specs.Tree.{Limit, nodeAt, pairsFrom, rising, firstRow, lastRow, endSound, sound}
 use Rattle.node_test.specs.Test.{firstOut}
 use Rattle.model.proofs.Tests.{and-l, and-r, by-test, holds, is-true}
@@ -32,19 +30,6 @@ rising-is : (p : ℕ × ℕ) (ps : List (ℕ × ℕ)) → rising (p ∷ ps) ≡ 
 unfolding rising rises
 rising-is p [] = refl
 rising-is p (q ∷ ps) = ap (λ (t : Bool). ltb (p .0) (q .0) && t) (rising-is q ps)
-
--- places before the last
-minus : (k m : ℕ) → k - m - 1 ≡ k - (m + 1)
-minus k m = omega arith
-
-prev : (j k : ℕ) → j < k → j ≤ k - 1
-prev j k h = omega arith
-
-prev2 : (j k : ℕ) → j < k - 1 → j ≤ k - 2
-prev2 j k h = omega arith
-
-third : (i j k : ℕ) → i ≤ j → k ≤ i + 3 → 4 ≤ k → j < k - 2 → j ≡ k - 3
-third i j k a b z h = omega arith
 
 module _ (C : Shape) (w : List ℕ) (n : ℕ) where
   -- the rows after the last one read, up to row k
@@ -80,8 +65,12 @@ module _ (C : Shape) (w : List ℕ) (n : ℕ) where
       let e : i + suc d ≡ i + 1 + d = omega arith in
       more (row C w n i) (i + 1) k (omega arith) ∙ rw (falls d (i + 1) k (omega arith) (rw e at g), and-false)
 
-  pub rise-falls : (j m k : ℕ) → j + 1 ≡ m → m < k → row C w n m ≤ row C w n j → rising (pairsFrom C w (λ (x : ℕ). x) n 0 k) ≡ false
-  rise-falls j m k f h g = let e : 0 + j ≡ j = omega arith in rise-all k (omega arith) ∙ falls j 0 k (omega arith) (rw (e, f) g)
+  -- at place d before the last
+  pub rise-falls : (d k : ℕ) → d + 2 ≤ k → row C w n (k - (d + 1)) ≤ row C w n (k - (d + 2)) → rising (pairsFrom C w (λ (x : ℕ). x) n 0 k) ≡ false
+  rise-falls d k h g =
+      let e : 0 + (k - (d + 2)) ≡ k - (d + 2) = omega arith in
+      let f : k - (d + 2) + 1 ≡ k - (d + 1) = omega arith in
+      rise-all k (omega arith) ∙ falls (k - (d + 2)) 0 k (omega arith) (rw (e, f) g)
 
   -- each row from place i on is above the one before it
   rise-rest : (d i k : ℕ) → i + d ≡ k → 1 ≤ i → ((j : ℕ) → i ≤ j → j < k → row C w n (j - 1) < row C w n j) → rest (row C w n (i - 1)) i k ≡ true
@@ -92,32 +81,25 @@ module _ (C : Shape) (w : List ℕ) (n : ℕ) where
       ∙ ap (λ (j : ℕ). rest (row C w n j) (i + 1) k) z
       ∙ rise-rest d (i + 1) k (omega arith) (omega arith) (λ j a b. f j (omega arith) b)
 
-  -- fewer than four rows are left, and the last four rise
-  rise-last : (i k : ℕ) → 1 ≤ i → i ≤ k → k ≤ i + 3 → 4 ≤ k → row C w n (k - 4) < row C w n (k - 3) → row C w n (k - 3) < row C w n (k - 2) → row C w n (k - 2) < row C w n (k - 1) → rest (row C w n (i - 1)) i k ≡ true
-  rise-last i k o a b z p q r = rise-rest (k - i) i k (omega arith) o each
-    where
-      at : (j m : ℕ) → j ≡ m → row C w n (m - 1) < row C w n m → row C w n (j - 1) < row C w n j
-      at j m e g = subst (λ (x : ℕ). row C w n (x - 1) < row C w n x) (sym e) g
+  -- the last four rise
+  four : (k d : ℕ) → 1 ≤ d → d ≤ 3 → row C w n (k - 4) < row C w n (k - 3) → row C w n (k - 3) < row C w n (k - 2) → row C w n (k - 2) < row C w n (k - 1) → row C w n (k - (d + 1)) < row C w n (k - d)
+  four k zero a b p q r = absurd (omega arith)
+  four k (suc zero) a b p q r = r
+  four k (suc (suc zero)) a b p q r = q
+  four k (suc (suc (suc zero))) a b p q r = p
+  four k (suc (suc (suc (suc d)))) a b p q r = absurd (omega arith)
 
-      each : (j : ℕ) → i ≤ j → j < k → row C w n (j - 1) < row C w n j
-      each j x y =
-          let u = minus k 1 in
-          let v = minus k 2 in
-          let s = minus k 3 in
-          ⊎-elim
-          (λ (e : j ≡ k - 1). at j (k - 1) e (rw u r))
-          (λ (e : j < k - 1). ⊎-elim
-          (λ (f : j ≡ k - 2). at j (k - 2) f (rw v q))
-          (λ (f : j < k - 2). at j (k - 3) (third i j k x b z f) (rw s p))
-          (eq-or-lt-of-le (prev2 j k e)))
-          (eq-or-lt-of-le (prev j k y))
-
+  -- and fewer than four rows are left
   pub rise-tail : (last i k : ℕ) → 1 ≤ i → i ≤ k → k ≤ i + 3 → 4 ≤ k → rising (pairsFrom C w (λ (x : ℕ). x) n 0 k) ≡ rest last i k → last ≡ row C w n (i - 1)
       → row C w n (k - 4) < row C w n (k - 3) → row C w n (k - 3) < row C w n (k - 2) → ltb (row C w n (k - 2)) (row C w n (k - 1)) ≡ rising (pairsFrom C w (λ (x : ℕ). x) n 0 k)
   rise-tail last i k o a b z e f p q =
       by-test (ltb (row C w n (k - 2)) (row C w n (k - 1)))
-      (λ t. t ∙ sym (e ∙ rw f (rise-last i k o a b z p q (ltb-true (row C w n (k - 2)) (row C w n (k - 1)) t))))
-      (λ t. t ∙ sym (rise-falls (k - 2) (k - 1) k (omega arith) (omega arith) (ltb-false (row C w n (k - 2)) (row C w n (k - 1)) t)))
+      (λ t. let each : (j : ℕ) → i ≤ j → j < k → row C w n (j - 1) < row C w n j = λ j x y.
+      let u : j ≡ k - (k - j) = omega arith in
+      let v : j - 1 ≡ k - (k - j + 1) = omega arith in
+      subst (λ (m : ℕ). row C w n (j - 1) < row C w n m) (sym u) (rw v (four k (k - j) (omega arith) (omega arith) p q (ltb-true (row C w n (k - 2)) (row C w n (k - 1)) t))) in
+      t ∙ sym (e ∙ rw f (rise-rest (k - i) i k (omega arith) o each)))
+      (λ t. t ∙ sym (rise-falls 0 k (omega arith) (ltb-false (row C w n (k - 2)) (row C w n (k - 1)) t)))
 
   last-row : (i k : ℕ) → lastRow (pairsFrom C w (λ (x : ℕ). x) n i (suc k)) ≡ row C w n (i + k)
   unfolding lastRow pairsFrom

@@ -1,28 +1,29 @@
 -- What a reading has left behind, one turn at a time.
 use Prim.Native.Nat.{ℕ, zero, suc, _+_, _-_, _<_, _≤_, zero-le}
 use mathlib.Core.List.{List, [], _∷_, _++_}
-use mathlib.Core.Bool.{true, false, false≢true}
+use mathlib.Core.Bool.{true, false}
 use mathlib.Core.Path.{_≡_, refl, sym, ap, _∙_, subst}
-use mathlib.Core.Logic.{_⊎_, inl, inr, ⊎-elim}
+use mathlib.Core.Logic.{_⊎_, ⊎-elim}
 use native.Mathlib.Omega.{arith}
 use native.Mathlib.Nat.{zero-add}
-use lib.Dec.{T, ltb, lt→ltb}
-use borrow.Author.Tests.{lt-ltb, le-ltb, ltb-false}
+use lib.Dec.{T, lt→ltb}
+use borrow.Author.Tests.{lt-ltb, le-ltb}
 use Rattle.model.specs.Words.{Shape, height, count, start, end, row, child}
-use Rattle.model.specs.Tree.{Limit, Below, Level, pairsFrom, nodeAt, level, next, last, sound, allPairs, AllSound}
+use Rattle.model.specs.Tree.{Limit, Below, pairsFrom, nodeAt, level, next, last, sound, allPairs, AllSound}
 use Rattle.model.specs.Reading.{passes, nextRow}
 use Rattle.model.specs.Paths.{stack, trail, lastOf, above, turned, entered, rooted}
 use Rattle.model.specs.declared.path.Position.{Position}
 use Rattle.model.specs.declared.path.Path.{Path}
-use Rattle.model.proofs.Tests.{holds, and-l, by-test}
+use Rattle.model.proofs.Tests.{holds, and-l}
 use Rattle.model.proofs.Sound.{soundly, sound-at}
+use Rattle.model.proofs.Frame.{length-pairs}
 use Rattle.model.proofs.Paths.{stack-pop}
 use Rattle.model.proofs.Writes.{pairs-snoc}
 use Rattle.law_formed.proofs.Clean.{leaf-rises}
 use Rattle.tree_turn.specs.Left.{bound, lowest}
 use Rattle.tree_turn.specs.Turn.{hasChild}
 use Rattle.tree_turn.proofs.Rest.{bound-turned}
-use Rattle.tree_turn.proofs.Tests.{branch}
+use Rattle.tree_turn.proofs.Tests.{branch, no-more}
 use Rattle.tree_turn.proofs.Branch.{Went}
 use Rattle.tree_turn.proofs.InPlace.{popped, enteredPath}
 use Rattle.prune_boundary.specs.Behind.{Passed, limitAt, Done, Above, Behind, BehindPath}
@@ -35,15 +36,13 @@ all-snoc Q (p ∷ []) r x b a q = (a .0, (q, tt))
 all-snoc Q (p ∷ p₂ ∷ ps) r x b a q = (a .0, all-snoc Q (p₂ ∷ ps) r x b (a .1) q)
 
 module _ (C : Shape) (P : ℕ) (w : List ℕ) where
-  limit-mid : (h n k : ℕ) (up : List Position) → k < count C w n → limitAt C P w h n k up ≡ Below (row C w n k)
-  limit-mid h n k up l = rw (lt-ltb k (count C w n) l)
-
-  limit-end : (h n k : ℕ) (up : List Position) → count C w n ≤ k → limitAt C P w h n k up ≡ last h (end C w n) (bound C w up)
-  limit-end h n k up l = rw (le-ltb k (count C w n) l)
-
   pub tall : (h n : ℕ) (up : List Position) → Passed C P w h n up → height C w n ≡ h
   unfolding level
   tall h n up p = soundly C h (level C w (suc h) n) (start C w n) (bound C w up) (p .good) .high
+
+  pub few : (h n : ℕ) (up : List Position) → Passed C P w h n up → count C w n ≤ C .cap
+  unfolding level
+  few h n up p = omega (arith, soundly C h (level C w (suc h) n) (start C w n) (bound C w up) (p .good) .many, length-pairs C w (level C w h) n 0 (count C w n))
 
   -- no entry is done
   pub done-none : (h n : ℕ) (up : List Position) → Done C P w h n 0 up
@@ -55,28 +54,18 @@ module _ (C : Shape) (P : ℕ) (w : List ℕ) where
   unfolding Done
   done-more h n k up l d q =
       let z : k + 1 ≡ suc k = omega arith in
-      let s = pairs-snoc C w (level C w h) n 0 k in
-      let d₂ : allPairs (AllSound C P h) (pairsFrom C w (level C w h) n 0 k) (Below (row C w n k)) = subst (λ (b : Limit). allPairs (AllSound C P h) (pairsFrom C w (level C w h) n 0 k) b) (limit-mid h n k up l) d in
-      subst (λ (j : ℕ). allPairs (AllSound C P h) (pairsFrom C w (level C w h) n 0 j) (limitAt C P w h n (k + 1) up)) (sym z)
-      (subst (λ (ps : List (ℕ × Level h)). allPairs (AllSound C P h) ps (limitAt C P w h n (k + 1) up)) (sym s)
-      (all-snoc (AllSound C P h) (pairsFrom C w (level C w h) n 0 k) (row C w n (0 + k)) (level C w h (child C w n (0 + k))) (limitAt C P w h n (k + 1) up)
-      (subst (λ (j : ℕ). allPairs (AllSound C P h) (pairsFrom C w (level C w h) n 0 k) (Below (row C w n j))) (sym (zero-add k)) d₂)
-      (subst (λ (j : ℕ). AllSound C P h (level C w h (child C w n j)) (row C w n j) (limitAt C P w h n (k + 1) up)) (sym (zero-add k)) q)))
+      rw (z, pairs-snoc C w (level C w h) n 0 k, zero-add k)
+      (all-snoc (AllSound C P h) (pairsFrom C w (level C w h) n 0 k) (row C w n k) (level C w h (child C w n k)) (limitAt C P w h n (suc k) up) (rw (lt-ltb k (count C w n) l) at d) (rw z at q))
 
   -- a node all of whose entries are done, or a leaf
   pub whole : (h n k : ℕ) (up : List Position) → Passed C P w h n up → Done C P w h n k up → k ≤ count C w n → (h ≡ 0) ⊎ (count C w n ≤ k) → AllSound C P (suc h) (level C w (suc h) n) (start C w n) (bound C w up)
   unfolding AllSound Done level last
   whole h n k up p d l e =
-      (lt→ltb n P (p .inside), p .good, ⊎-elim (λ (z : h ≡ 0). leaf h n up p z) (λ (z : count C w n ≤ k). full h n k up d (omega arith)) e)
+      (lt→ltb n P (p .inside), p .good, ⊎-elim (λ (z : h ≡ 0). leaf h n up p z) (λ (z : count C w n ≤ k). let y : count C w n ≡ k = omega arith in rw y (rw (le-ltb k (count C w n) z) at d)) e)
     where
       leaf : (h n : ℕ) (up : List Position) → Passed C P w h n up → h ≡ 0 → allPairs (AllSound C P h) (pairsFrom C w (level C w h) n 0 (count C w n)) (last h (end C w n) (bound C w up))
       leaf zero n up p z = leaf-rises C (level C w 1 n) (start C w n) (bound C w up) (p .good)
       leaf (suc h) n up p z = absurd (omega arith)
-
-      full : (h n k : ℕ) (up : List Position) → Done C P w h n k up → count C w n ≡ k → allPairs (AllSound C P h) (pairsFrom C w (level C w h) n 0 (count C w n)) (last h (end C w n) (bound C w up))
-      full h n k up d z =
-          subst (λ (j : ℕ). allPairs (AllSound C P h) (pairsFrom C w (level C w h) n 0 j) (last h (end C w n) (bound C w up))) (sym z)
-          (subst (λ (b : Limit). allPairs (AllSound C P h) (pairsFrom C w (level C w h) n 0 k) b) (limit-end h n k up (omega arith)) d)
 
   -- the bound below a position that was moved on
   bound-mid : (q : Position) (up : List Position) (h : ℕ) → 1 ≤ q .index → bound C w (q ∷ up) ≡ limitAt C P w (suc h) (q .node .0) (q .index - 1 + 1) up
@@ -90,18 +79,12 @@ module _ (C : Shape) (P : ℕ) (w : List ℕ) where
   behind-out root h p (q ∷ up) b e =
       let n = p .node .0 in
       let a = b .above in
-      let g : AllSound C P (suc h) (level C w (suc h) n) (start C w n) (bound C w (q ∷ up)) = whole h n (p .index) (q ∷ up) (b .passed) (b .done) (b .within) e in
-      let g₂ : AllSound C P (suc h) (level C w (suc h) n) (start C w n) (limitAt C P w (suc h) (q .node .0) (q .index - 1 + 1) up) =
-      subst (λ (x : Limit). AllSound C P (suc h) (level C w (suc h) n) (start C w n) x) (bound-mid q up h (a .some)) g in
-      let g₃ = subst (λ (r : ℕ). AllSound C P (suc h) (level C w (suc h) n) r (limitAt C P w (suc h) (q .node .0) (q .index - 1 + 1) up)) (a .begins) g₂ in
-      let g₄ = subst (λ (m : ℕ). AllSound C P (suc h) (level C w (suc h) m) (row C w (q .node .0) (q .index - 1)) (limitAt C P w (suc h) (q .node .0) (q .index - 1 + 1) up)) (a .leads) g₃ in
-      let z : q .index - 1 + 1 ≡ q .index = omega (arith, a .some) in
-      record {
-        within = a .within;
-        passed = a .passed;
-        done = subst (λ (j : ℕ). Done C P w (suc h) (q .node .0) j up) z (done-more (suc h) (q .node .0) (q .index - 1) up (omega (arith, a .some, a .within)) (a .done) g₄);
-        above = a .above;
-      }
+      let m = q .node .0 in
+      let j = q .index - 1 in
+      let g : AllSound C P (suc h) (level C w (suc h) (child C w m j)) (row C w m j) (limitAt C P w (suc h) m (j + 1) up) =
+      rw (← a .leads, ← a .begins, ← bound-mid q up h (a .some)) (whole h n (p .index) (q ∷ up) (b .passed) (b .done) (b .within) e) in
+      let z : j + 1 ≡ q .index = omega (arith, a .some) in
+      record { within = a .within; passed = a .passed; done = rw z at (done-more (suc h) m j up (omega (arith, a .some, a .within)) (a .done) g); above = a .above }
 
   pub sound-level : (g c r : ℕ) (x : Limit) → passes false C g (nodeAt C w c) r x ≡ true → T (sound C g (level C w (suc g) c) r x)
   unfolding passes level
@@ -138,14 +121,6 @@ module _ (C : Shape) (P : ℕ) (w : List ℕ) where
           above = b .above;
         };
       }
-
--- a node that has no more children is a leaf, or all its entries are done
-pub no-more : (C : Shape) (w : List ℕ) (n i : ℕ) → hasChild C w n i ≡ false → (height C w n ≡ 0) ⊎ (count C w n ≤ i)
-unfolding hasChild
-no-more C w n i e =
-    by-test (ltb 0 (height C w n))
-    (λ u. by-test (ltb i (count C w n)) (λ v. absurd (false≢true (sym e ∙ rw (u, v)))) (λ v. inr (ltb-false i (count C w n) v)))
-    (λ u. inl (omega (arith, ltb-false 0 (height C w n) u)))
 
 -- The same in the loop's terms -----------------------------------------------------------------------------
 module _ (C : Shape) (P : ℕ) (w : List ℕ) (root : ℕ) where

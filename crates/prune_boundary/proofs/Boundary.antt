@@ -1,21 +1,20 @@
 -- Where the last entry named ends at e, the path to its leaf is the boundary of the cut.
 use Prim.Native.Nat.{ℕ, zero, suc, _+_, _-_, _<_, _≤_}
 use mathlib.Core.List.{List, [], _∷_, _++_, append-nil}
-use mathlib.Core.Bool.{Bool, true, false, _&&_}
+use mathlib.Core.Bool.{Bool, _&&_}
 use mathlib.Core.Path.{_≡_, refl, sym, ap, _∙_, subst}
-use mathlib.Core.Logic.{_⊎_, inl, inr}
+use mathlib.Core.Logic.{inr}
 use native.Mathlib.Omega.{arith}
 use native.Mathlib.Nat.{zero-add}
 use lib.ListN.{length}
 use lib.Dec.{T, leb, ltb, eqb, eqb→eq}
 use borrow.Author.Tests.{lt-ltb, le-ltb, ltb-true, ltb-false}
-use Rattle.model.specs.Words.{Shape, pick, part, height, count, start, end, row, child, rowLimit}
-use Rattle.model.specs.Tree.{Node, Limit, Open, Below, Level, pairsFrom, level, next, last, meets, endSound, sound, allPairs, Under, AllSound}
-use Rattle.model.specs.Reading.{inPairs, nodes}
-use Rattle.model.specs.Cut.{Rest, gone, stays, ifGone, keep, cutPairs, trim, cut, wentPairs, went, trimsPairs, trims}
+use Rattle.model.specs.Words.{Shape, pick, height, count, start, end, row, child, rowLimit}
+use Rattle.model.specs.Tree.{Limit, Open, Below, Level, pairsFrom, level, next, last, meets, endSound, allPairs, Under, AllSound}
+use Rattle.model.specs.Cut.{gone, stays, ifGone, keep, cutPairs, trim, cut, wentPairs, went, trimsPairs, trims}
 use Rattle.model.specs.declared.path.Position.{Position}
 use Rattle.model.proofs.Tests.{by-test, and-l, and-r}
-use Rattle.model.proofs.Sound.{chain, sound-below, soundly, rows, rises, row-first, Begins, begins, sound-ends}
+use Rattle.model.proofs.Sound.{chain, sound-below, soundly, rows, rises, begins, sound-ends}
 use Rattle.model.proofs.Place.{risen}
 use Rattle.model.proofs.Frame.{length-pairs}
 use Rattle.model.proofs.Writes.{pairs-snoc}
@@ -27,25 +26,30 @@ use Rattle.prune_boundary.specs.Behind.{Passed, limitAt, Done, Above, Be
 use Rattle.prune_leaf.specs.Progress.{Last}
 use Rattle.prune_boundary.proofs.Behind.{tall, behind-out}
 use Rattle.prune_boundary.specs.Edge.{Meets, at, firstPairs, firstNodes, wentOf, Stays, trimsUp, Cutting}
-use Rattle.prune_boundary.proofs.Goes.{gone-cons, cut-append, went-append, trims-append, pairs-split, all-went, pairs-go, goes}
+use Rattle.prune_boundary.proofs.Goes.{cut-append, went-append, trims-append, pairs-split, all-went, pairs-go, goes}
 
 module _ (C : Shape) (P : ℕ) (w : List ℕ) where
-  -- the rows of a node that passed its test
-  pub record Rows (n : ℕ) : Type 0 where
-    pub first : start C w n ≡ row C w n 0
-    pub rise : (a c : ℕ) → a < c → c < count C w n → row C w n a < row C w n c
-
-  first-rise : (h n c r : ℕ) (z : ℕ → Bool) → T (rows z r (pairsFrom C w (level C w h) n 0 c)) → (r ≡ row C w n 0) × ((a d : ℕ) → a < d → d < c → row C w n a < row C w n d)
+  -- a node that passed its test starts at its first row, and its rows rise
+  first-low : (h n c r : ℕ) (z : ℕ → Bool) → T (rows z r (pairsFrom C w (level C w h) n 0 c)) → (j : ℕ) → j ≤ c - 1 → r ≤ row C w n j
   unfolding rows pairsFrom
-  first-rise h n zero r z t = absurd t
-  first-rise h n (suc k) r z t =
-      (sym (eqb→eq (row C w n 0) r (search (and-l))), λ a d l m. risen C w n (level C w h) z 0 k (and-r (eqb (row C w n 0) r) (rises z (row C w n 0) (pairsFrom C w (level C w h) n (0 + 1) k)) t) a d (omega arith) l (omega arith))
+  first-low h n zero r z t j l = absurd t
+  first-low h n (suc k) r z t j l =
+      let f : row C w n 0 ≡ r = eqb→eq (row C w n 0) r (search (and-l)) in
+      by-test (ltb 0 j)
+      (λ u. omega (arith, f, risen C w n (level C w h) z 0 k (and-r (eqb (row C w n 0) r) (rises z (row C w n 0) (pairsFrom C w (level C w h) n (0 + 1) k)) t) 0 j (omega arith) (ltb-true 0 j u) (omega arith)))
+      (λ u. let y : j ≡ 0 = omega (arith, ltb-false 0 j u) in omega (arith, f, ap (row C w n) y))
 
-  pub rows-of : (h n : ℕ) (up : List Position) → Passed C P w h n up → Rows n
+  pub row-low : (h n : ℕ) (up : List Position) → Passed C P w h n up → (j : ℕ) → j ≤ count C w n - 1 → start C w n ≤ row C w n j
   unfolding level
-  rows-of h n up p =
-      let q = first-rise h n (count C w n) (start C w n) (endSound h (bound C w up) (end C w n)) (soundly C h (level C w (suc h) n) (start C w n) (bound C w up) (p .good) .rise) in
-      record { first = q .0; rise = q .1 }
+  row-low h n up p = first-low h n (count C w n) (start C w n) (endSound h (bound C w up) (end C w n)) (soundly C h (level C w (suc h) n) (start C w n) (bound C w up) (p .good) .rise)
+
+  -- the entry that leads down: what lies before it is sound, up to its row
+  pub led : (root h n : ℕ) (q : Position) (up : List Position) → Above C P w root h n (q ∷ up)
+      → (q .index - 1 < count C w (q .node .0)) × allPairs (AllSound C P (suc h)) (firstPairs C w (suc h) (q .node .0) (q .index - 1)) (Below (row C w (q .node .0) (q .index - 1))) × (start C w (q .node .0) ≤ row C w (q .node .0) (q .index - 1))
+  unfolding Above Done
+  led root h n q up a =
+      let l : q .index - 1 < count C w (q .node .0) = omega (arith, a .some, a .within) in
+      (l, rw (lt-ltb (q .index - 1) (count C w (q .node .0)) l) at (a .done), row-low (suc h) (q .node .0) up (a .passed) (q .index - 1) (omega arith))
 
   module _ (e : ℕ) where
     -- node n, of which entry k is the first that stays
@@ -114,24 +118,19 @@ module _ (C : Shape) (P : ℕ) (w : List ℕ) where
     stays-up root h n q up T₀ s a =
         let m = q .node .0 in
         let k = q .index - 1 in
-        let l : k < count C w m = omega (arith, a .some, a .within) in
-        let b : row C w m k < e = omega (arith, s .below, a .begins) in
-        let d : allPairs (AllSound C P (suc h)) (firstPairs C w (suc h) m k) (Below (row C w m k)) = rw (lt-ltb k (count C w m) l) at (a .done) in
-        let z = pairs-go C P e (suc h) (goes C P e (suc h)) (row C w m k) (omega arith) (firstPairs C w (suc h) m k) d in
-        let r = rows-of (suc h) m up (a .passed) in
-        let below : start C w m < e = by-test (ltb 0 k) (λ t. omega (arith, r .first, r .rise 0 k (ltb-true 0 k t) l)) (λ t. let y : k ≡ 0 = omega (arith, ltb-false 0 k t) in omega (arith, r .first, ap (row C w m) y)) in
+        let g = led root h n q up a in
+        let below : start C w m < e = omega (arith, g .2, s .below, a .begins) in
+        let z = pairs-go C P e (suc h) (goes C P e (suc h)) (row C w m k) (omega (arith, s .below, a .begins)) (firstPairs C w (suc h) m k) (g .1) in
         let st = stay-cut h n T₀ s in
-        let here : (j i : ℕ) → n ≡ j → start C w n ≡ i → (cut (suc h) e (level C w (suc h) j) i ≡ stays (st .0)) × (trims (suc h) e (level C w (suc h) j) i ≡ T₀) × (went (suc h) e (level C w (suc h) j) i ≡ wentOf C w T₀) =
-        λ j i x y. subst (λ (v : ℕ). (cut (suc h) e (level C w (suc h) v) i ≡ stays (st .0)) × (trims (suc h) e (level C w (suc h) v) i ≡ T₀) × (went (suc h) e (level C w (suc h) v) i ≡ wentOf C w T₀)) x
-        (subst (λ (v : ℕ). (cut (suc h) e (level C w (suc h) n) v ≡ stays (st .0)) × (trims (suc h) e (level C w (suc h) n) v ≡ T₀) × (went (suc h) e (level C w (suc h) n) v ≡ wentOf C w T₀)) y (st .1, s .trimmed, st .2)) in
-        let c = here (child C w m k) (row C w m k) (a .leads) (a .begins) in
+        let c : (cut (suc h) e (level C w (suc h) (child C w m k)) (row C w m k) ≡ stays (st .0)) × (trims (suc h) e (level C w (suc h) (child C w m k)) (row C w m k) ≡ T₀) × (went (suc h) e (level C w (suc h) (child C w m k)) (row C w m k) ≡ wentOf C w T₀) =
+        rw (← a .leads, ← a .begins) (st .1, s .trimmed, st .2) in
         record {
           first = _;
           others = _;
-          left = cut-is (suc h) m k l z (st .0) (c .0);
+          left = cut-is (suc h) m k (g .0) z (st .0) (c .0);
           below = below;
-          trimmed = trims-is (suc h) m k l z (st .0) (c .0) below ∙ ap (λ (ts : List (ℕ × ℕ)). (m, k) ∷ ts) (c .1);
-          gone = went-is (suc h) m k l z (st .0) (c .0) ∙ ap (λ (ns : List ℕ). firstNodes C w (suc h) m k ++ ns) (c .2) ∙ ap (λ (j : ℕ). firstNodes C w j m k ++ wentOf C w T₀) (sym (tall C P w (suc h) m up (a .passed)));
+          trimmed = trims-is (suc h) m k (g .0) z (st .0) (c .0) below ∙ ap (λ (ts : List (ℕ × ℕ)). (m, k) ∷ ts) (c .1);
+          gone = went-is (suc h) m k (g .0) z (st .0) (c .0) ∙ ap (λ (ns : List ℕ). firstNodes C w (suc h) m k ++ ns) (c .2) ∙ ap (λ (j : ℕ). firstNodes C w j m k ++ wentOf C w T₀) (sym (tall C P w (suc h) m up (a .passed)));
         }
 
     -- up to the root
@@ -177,39 +176,30 @@ module _ (C : Shape) (P : ℕ) (w : List ℕ) where
         let j = q .index - 1 in
         let a = c .behind .above in
         let full : count C w n ≡ k = omega (arith, c .behind .within) in
-        let i : j < count C w m = omega (arith, a .some, a .within) in
-        let b : row C w m j < e = omega (arith, c .below, a .begins) in
-        let d : allPairs (AllSound C P (suc h)) (firstPairs C w (suc h) m j) (Below (row C w m j)) = rw (lt-ltb j (count C w m) i) at (a .done) in
-        let z = pairs-go C P e (suc h) (goes C P e (suc h)) (row C w m j) (omega arith) (firstPairs C w (suc h) m j) d in
-        let r = rows-of (suc h) m up (a .passed) in
-        let g : cut (suc h) e (level C w (suc h) (child C w m j)) (row C w m j) ≡ gone =
-        subst (λ (v : ℕ). cut (suc h) e (level C w (suc h) v) (row C w m j) ≡ gone) (a .leads) (subst (λ (v : ℕ). cut (suc h) e (level C w (suc h) n) v ≡ gone) (a .begins) (all-gone h n k full (c .below) (c .gone))) in
+        let d = led root h n q up a in
+        let z = pairs-go C P e (suc h) (goes C P e (suc h)) (row C w m j) (omega (arith, c .below, a .begins)) (firstPairs C w (suc h) m j) (d .1) in
+        let g : cut (suc h) e (level C w (suc h) (child C w m j)) (row C w m j) ≡ gone = rw (← a .leads, ← a .begins) (all-gone h n k full (c .below) (c .gone)) in
         let y : q .index ≡ suc j = omega (arith, a .some) in
         record {
           behind = behind-out C P w root h (at n k) (q ∷ up) (c .behind) (inr l);
           some = a .some;
-          below = by-test (ltb 0 j) (λ t. omega (arith, r .first, r .rise 0 j (ltb-true 0 j t) i)) (λ t. let x : j ≡ 0 = omega (arith, ltb-false 0 j t) in omega (arith, r .first, ap (row C w m) x));
+          below = omega (arith, d .2, c .below, a .begins);
           lands = up-lands root h n k q up c l;
-          gone = subst (λ (v : ℕ). cutPairs e (cut (suc h) e) (firstPairs C w (suc h) m v) ≡ []) (sym y)
-              (ap (cutPairs e (cut (suc h) e)) (pairs-snoc C w (level C w (suc h)) m 0 j)
-              ∙ cut-snoc (suc h) (firstPairs C w (suc h) m j) (row C w m (0 + j)) (level C w (suc h) (child C w m (0 + j))) z (subst (λ (v : ℕ). cut (suc h) e (level C w (suc h) (child C w m v)) (row C w m v) ≡ gone) (sym (zero-add j)) g));
+          gone = rw (y, pairs-snoc C w (level C w (suc h)) m 0 j, zero-add j) (cut-snoc (suc h) (firstPairs C w (suc h) m j) (row C w m j) (level C w (suc h) (child C w m j)) z g);
         }
 
     -- the leaf of the last entry named
     all-front : {K : Type 0} (f : ℕ → K) (Q : K → ℕ → Limit → Type 0) (n i a b : ℕ) (x : Limit) → allPairs Q (pairsFrom C w f n i (a + b)) x → allPairs Q (pairsFrom C w f n i a) (next (pairsFrom C w f n (i + a) b) x)
     unfolding allPairs pairsFrom next
     all-front f Q n i zero b x g = tt
-    all-front f Q n i (suc zero) b x g =
-        let y : suc zero + b ≡ suc b = omega arith in
-        let g₂ = subst (λ (c : ℕ). allPairs Q (pairsFrom C w f n i c) x) y g in
-        (g₂ .0, tt)
+    all-front f Q n i (suc zero) b x g = let y : suc zero + b ≡ suc b = omega arith in ((rw y at g) .0, tt)
     all-front f Q n i (suc (suc a)) b x g =
         let y : suc (suc a) + b ≡ suc (suc (a + b)) = omega arith in
         let v : i + 1 + suc a ≡ i + suc (suc a) = omega arith in
         let u : suc (a + b) ≡ suc a + b = omega arith in
-        let g₂ = subst (λ (c : ℕ). allPairs Q (pairsFrom C w f n i c) x) y g in
+        let g₂ = rw y at g in
         let g₃ = all-front f Q n (i + 1) (suc a) b x (subst (λ (c : ℕ). allPairs Q (pairsFrom C w f n (i + 1) c) x) u (g₂ .1)) in
-        (g₂ .0, subst (λ (c : ℕ). allPairs Q (pairsFrom C w f n (i + 1) (suc a)) (next (pairsFrom C w f n c b) x)) v g₃)
+        (g₂ .0, rw v at g₃)
 
     next-limit : (n u : ℕ) (up : List Position) → u ≤ count C w n → next (pairsFrom C w (level C w 0) n (0 + u) (count C w n - u)) (Below (end C w n)) ≡ limitAt C P w 0 n u up
     unfolding next pairsFrom last
@@ -226,9 +216,7 @@ module _ (C : Shape) (P : ℕ) (w : List ℕ) where
     unfolding Done AllSound
     leaf-done n u up p l =
         let z : count C w n ≡ u + (count C w n - u) = omega arith in
-        let g : allPairs (AllSound C P 0) (firstPairs C w 0 n (count C w n)) (Below (end C w n)) = leaf-pairs n up p in
-        subst (λ (b : Limit). allPairs (AllSound C P 0) (firstPairs C w 0 n u) b) (next-limit n u up l)
-        (all-front (level C w 0) (AllSound C P 0) n 0 u (count C w n - u) (Below (end C w n)) (subst (λ (c : ℕ). allPairs (AllSound C P 0) (firstPairs C w 0 n c) (Below (end C w n))) z g))
+        rw (← next-limit n u up l) (all-front (level C w 0) (AllSound C P 0) n 0 u (count C w n - u) (Below (end C w n)) (rw z at (leaf-pairs n up p)))
 
     leaf-limit : (n u : ℕ) (up : List Position) → Last C w n u e → limitAt C P w 0 n u up ≡ Below e
     unfolding entryEnd last
@@ -248,11 +236,11 @@ module _ (C : Shape) (P : ℕ) (w : List ℕ) where
     cutting-leaf root n u i up b k =
         let d = leaf-done n u up (b .passed) (k .within) in
         let q = leaf-limit n u up k in
-        let a : allPairs (AllSound C P 0) (firstPairs C w 0 n u) (Below e) = subst (λ (x : Limit). allPairs (AllSound C P 0) (firstPairs C w 0 n u) x) q d in
+        let a : allPairs (AllSound C P 0) (firstPairs C w 0 n u) (Below e) = rw q at d in
         record {
           behind = record { within = k .within; passed = b .passed; done = d; above = b .above };
           some = k .some;
-          below = omega (arith, rows-of 0 n up (b .passed) .first, first-under n u e (k .some) a);
-          lands = subst (λ (x : Limit). Meets x e) (sym q) refl;
+          below = omega (arith, row-low 0 n up (b .passed) 0 (omega arith), first-under n u e (k .some) a);
+          lands = rw q refl;
           gone = pairs-go C P e 0 (goes C P e 0) e (omega arith) (firstPairs C w 0 n u) a;
         }

@@ -1,19 +1,17 @@
 -- From the leaf of the last entry named up to the first node that keeps an entry, or the root.
-use Prim.Native.Nat.{ℕ, zero, suc, _+_, _-_, _<_, _≤_}
+use Prim.Native.Nat.{ℕ, suc, _+_, _-_, _<_, _≤_}
 use mathlib.Core.List.{List, [], _∷_, _++_, append-nil}
 use mathlib.Core.Bool.{false}
-use mathlib.Core.Path.{_≡_, refl, sym, ap, _∙_, subst}
+use mathlib.Core.Path.{_≡_, refl, sym, ap, _∙_}
 use mathlib.Core.Logic.{inr}
 use native.Mathlib.Omega.{arith}
-use lib.ListN.{getD, set, length, length-set, length-append, take}
+use lib.ListN.{set, length, length-set, length-append, take}
 use lib.Seq.{getD-set-same}
-use lib.Dec.{ltb}
 use borrow.Author.Tests.{lt-ltb}
-use Rattle.model.specs.Words.{Shape, pick, height, count, start, row}
-use Rattle.model.specs.Tree.{Below, level}
+use Rattle.model.specs.Words.{Shape, height, count, row}
 use Rattle.model.specs.Reading.{Visit, Leave, occ, rootNodes}
 use Rattle.model.specs.Cut.{cutPairs, cut, wentPairs, went}
-use Rattle.model.specs.Paths.{noPosition, stack, trail, lastOf, above}
+use Rattle.model.specs.Paths.{noPosition, trail, lastOf, above}
 use Rattle.model.specs.declared.path.Position.{Position}
 use Rattle.model.specs.declared.path.Path.{Path}
 use Rattle.model.proofs.Paths.{stack-pop, stack-set, stack-none, stack-turn}
@@ -28,14 +26,13 @@ use Rattle.tree_turn.proofs.Moves.{leaf-move, end-move}
 use Rattle.tree_turn.proofs.InPlace.{popped}
 use Rattle.tree_turn.proofs.Trace.{walked-out}
 use Rattle.prune_boundary.specs.Behind.{Above, Behind}
-use Rattle.prune_leaf.specs.Progress.{Last}
 use Rattle.prune_boundary.specs.Edge.{Meets, at, firstPairs, firstNodes, wentOf, Stays, trimsUp, trimsOn, Cutting, Ended, Climbed}
 use Rattle.prune_boundary.proofs.Behind.{tall, at-last}
 use Rattle.prune_boundary.proofs.Goes.{all-went}
 use Rattle.prune_boundary.proofs.Boundary.{stays-here, stays-root, cutting-up, cutting-leaf}
 use Rattle.prune_boundary.proofs.Went.{went-leaf, went-popped, went-first}
-use Rattle.prune_boundary.proofs.Joined.{stack-length, top-height, edge-spine}
-use Rattle.prune_boundary.proofs.Distinct.{firstsOf, spine-each, spine-inside}
+use Rattle.prune_boundary.proofs.Joined.{stack-length, top-height}
+use Rattle.prune_boundary.proofs.Distinct.{none, firstsOf, edge-stands}
 
 -- the path with the entries named in its leaf
 abbrev pub marked : Path → ℕ → Path
@@ -47,15 +44,12 @@ unfolding trimsUp onPath firstsOf occ
 path-firsts m [] T = omega arith
 path-firsts m (q ∷ up) T = omega (arith, path-firsts m up ((q .node .0, q .index - 1) ∷ T), occ-cons m (q .node .0) (firstsOf T), occ-cons m (q .node .0) (onPath up))
 
-module _ (C : Shape) (P : ℕ) (w : List ℕ) (e root : ℕ) where
-  height-fits : (h n k : ℕ) (up : List Position) → Cutting C w P e root h n k up → height C w n ≡ h
-  unfolding Behind
-  height-fits h n k up c = tall C P w h n up (c .behind .passed)
-
+module _ {C : Shape} {P : ℕ} {w : List ℕ} {e root : ℕ} where
   fits : (h : ℕ) (q : Position) (up : List Position) → Cutting C w P e root h (q .node .0) (q .index) up → Cutting C w P e root (height C w (q .node .0)) (q .node .0) (q .index) up
-  fits h q up c = subst (λ (j : ℕ). Cutting C w P e root j (q .node .0) (q .index) up) (sym (height-fits h (q .node .0) (q .index) up c)) c
+  unfolding Behind
+  fits h q up c = rw (tall C P w h (q .node .0) up (c .behind .passed)) c
 
-  module _ (p : Path) (u k : ℕ) (d : Ended C P w e root p u k) where
+  module _ {p : Path} {u k : ℕ} (d : Ended C P w e root p u k) where
     abbrev n : ℕ
     n = lastOf p .node .0
 
@@ -92,14 +86,12 @@ module _ (C : Shape) (P : ℕ) (w : List ℕ) (e root : ℕ) where
         record {
           one = d .walked .one ∙ ap (λ (vs : List Visit). d .seen ++ vs) same-left;
           all-clean = d .walked .all-clean;
-          held = λ m. (d .walked .held m ∙ ap (λ (st : List Position). occ m (onPath st) + occ m (lefts (d .seen))) (stack-pop (p .positions) (p .depth) (d .deep)) ∙ ap (λ (st : List Position). occ m (onPath st) + occ m (lefts (d .seen))) (sym trail-is));
+          held = λ m. rw trail-is (rw (stack-pop (p .positions) (p .depth) (d .deep)) at (d .walked .held m));
         }
 
     -- the same nodes go
     pub went-marked : lefts (d .seen) ≡ wentOf C w (trimsOn (marked p u))
-    went-marked =
-        d .went ∙ went-leaf C P w (above p) n (lastOf p .index) u (d .last .leaf) ∙ ap (λ (st : List Position). wentOf C w (trimsUp st ((n, u) ∷ []))) (sym above-is)
-        ∙ ap (λ (q : Position). wentOf C w (trimsUp (above (marked p u)) ((q .node .0, q .index) ∷ []))) (sym last-is)
+    went-marked = rw (above-is, last-is) (d .went ∙ went-leaf C P w (above p) n (lastOf p .index) u (d .last .leaf))
 
     -- the path goes down to a leaf
     pub ended-high : height C w root + 1 ≡ p .depth
@@ -110,19 +102,19 @@ module _ (C : Shape) (P : ℕ) (w : List ℕ) (e root : ℕ) where
 
     pub start-climb : Climbed C P w e root (marked p u)
     start-climb =
-        let b : Behind C P w root 0 (at n (lastOf p .index) ∷ above p) = subst (λ (h : ℕ). Behind C P w root h (lastOf p ∷ above p)) (d .last .leaf) (at-last C P w root p (d .deep) (d .behind)) in
+        let b : Behind C P w root 0 (at n (lastOf p .index) ∷ above p) = rw (d .last .leaf) at (at-last C P w root p (d .deep) (d .behind)) in
         let c : Cutting C w P e root (height C w n) n u (above p) = fits 0 (record { node = lastOf p .node; index = u }) (above p) (cutting-leaf C P w e root n u (lastOf p .index) (above p) b (d .last)) in
         record {
           deep = d .deep;
           long = length-set (p .positions) (p .depth - 1) (record { node = lastOf p .node; index = u }) ∙ d .long;
           valid = valid-marked;
-          cutting = subst (λ (q : Position). Cutting C w P e root (height C w (q .node .0)) (q .node .0) (q .index) (above (marked p u))) (sym last-is) (subst (λ (st : List Position). Cutting C w P e root (height C w n) n u st) (sym above-is) c);
+          cutting = rw (last-is, above-is) c;
           seen = d .seen;
           walked = walked-is;
           went = went-marked;
         }
 
-  module _ (p : Path) (c : Climbed C P w e root p) where
+  module _ {p : Path} (c : Climbed C P w e root p) where
     -- a node all of whose entries go
     module _ (l : 1 < p .depth) (m : count C w (lastOf p .node .0) ≤ lastOf p .index) where
       over : above p ≡ lastOf (popped p) ∷ above (popped p)
@@ -138,7 +130,7 @@ module _ (C : Shape) (P : ℕ) (w : List ℕ) (e root : ℕ) where
       unfolding lefts
       climb =
           let q = lastOf (popped p) in
-          let d = cutting-up C P w e root (height C w (lastOf p .node .0)) (lastOf p .node .0) (lastOf p .index) q (above (popped p)) (subst (λ (st : List Position). Cutting C w P e root (height C w (lastOf p .node .0)) (lastOf p .node .0) (lastOf p .index) st) over (c .cutting)) m in
+          let d = cutting-up C P w e root (height C w (lastOf p .node .0)) (lastOf p .node .0) (lastOf p .index) q (above (popped p)) (rw over at (c .cutting)) m in
           record {
             deep = omega arith;
             long = c .long;
@@ -179,25 +171,18 @@ module _ (C : Shape) (P : ℕ) (w : List ℕ) (e root : ℕ) where
         let n = lastOf p .node .0 in
         let z : above p ≡ [] = stack-none (p .positions) (p .depth - 1) (omega arith) in
         let k : lastOf p .index ≡ count C w n = omega (arith, c .cutting .behind .within) in
-        let cu = subst (λ (st : List Position). Cutting C w P e root (height C w n) n (lastOf p .index) st) z (c .cutting) in
-        let r : n ≡ root = cu .behind .above in
-        let g : cutPairs e (cut (height C w n) e) (firstPairs C w (height C w n) n (count C w n)) ≡ [] = subst (λ (j : ℕ). cutPairs e (cut (height C w n) e) (firstPairs C w (height C w n) n j) ≡ []) k (c .cutting .gone) in
-        let went-all : wentPairs (cut (height C w n) e) (went (height C w n) e) (firstPairs C w (height C w n) n (count C w n)) ≡ wentOf C w (trimsOn p) =
-        all-went (height C w n) e (firstPairs C w (height C w n) n (count C w n)) g ∙ ap (λ (j : ℕ). firstNodes C w (height C w n) n j) (sym k) ∙ sym (append-nil (firstNodes C w (height C w n) n (lastOf p .index)))
-        ∙ ap (λ (st : List Position). wentOf C w (trimsUp st ((n, lastOf p .index) ∷ []))) (sym z) in (
-          subst (λ (m : ℕ). cutPairs e (cut (height C w m) e) (firstPairs C w (height C w m) m (count C w m)) ≡ []) r g,
-          subst (λ (m : ℕ). wentPairs (cut (height C w m) e) (went (height C w m) e) (firstPairs C w (height C w m) m (count C w m)) ≡ wentOf C w (trimsOn p)) r went-all,
-        )
+        let r : n ≡ root = (rw z at (c .cutting)) .behind .above in
+        let g : cutPairs e (cut (height C w n) e) (firstPairs C w (height C w n) n (count C w n)) ≡ [] = rw (← k) (c .cutting .gone) in
+        rw (← r) (g, all-went (height C w n) e (firstPairs C w (height C w n) n (count C w n)) g ∙ rw (z, k, append-nil (firstNodes C w (height C w n) n (count C w n))))
 
     -- each node was entered once
     pub edge-once : (m : ℕ) → occ m (root ∷ enters (c .seen)) ≤ 1
     unfolding firstsOf onPath
     edge-once m =
-        let s = edge-spine C P w e root p c in
         let q = lastOf p in
         omega (
           arith,
-          spine-each C P w m (s .0) (trimsOn p) (s .1),
+          edge-stands c .1 .each m,
           c .walked .held m,
           ap (λ (ns : List ℕ). occ m ns) (c .went),
           path-firsts m (above p) ((q .node .0, q .index) ∷ []),
@@ -208,8 +193,8 @@ module _ (C : Shape) (P : ℕ) (w : List ℕ) (e root : ℕ) where
     -- they are few
     pub edge-few : length (wentOf C w (trimsOn p)) ≤ P
     edge-few =
-        let s = edge-spine C P w e root p c in
-        most (wentOf C w (trimsOn p)) P (λ m l. spine-inside C P w m l (s .0) (trimsOn p) (s .1)) (λ m. (let o = spine-each C P w m (s .0) (trimsOn p) (s .1) in omega arith))
+        let s = edge-stands c .1 in
+        most (wentOf C w (trimsOn p)) P (λ m l. none _ (λ o. omega (arith, s .near m (omega arith) .1))) (λ m. (let o = s .each m in omega arith))
 
     -- and the first in postorder
     pub edge-first : take (length (wentOf C w (trimsOn p))) (rootNodes C w root) ≡ wentOf C w (trimsOn p)

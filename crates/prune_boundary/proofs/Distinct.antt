@@ -1,9 +1,8 @@
--- The nodes that go are none of those that stay: they are lower than their edge's nodes, or start before them.
+-- The nodes of an edge and those that go: each stands once, in the pool, and what goes starts before the cut.
 use Prim.Native.Nat.{ℕ, zero, suc, _+_, _-_, _<_, _≤_}
-use mathlib.Core.List.{List, [], _∷_, _++_}
+use mathlib.Core.List.{List, [], _∷_}
 use mathlib.Core.Path.{_≡_, refl, sym, ap, _∙_, subst}
 use native.Mathlib.Omega.{arith}
-use lib.ListN.{length}
 use lib.Dec.{ltb, eqb}
 use borrow.Author.Tests.{lt-ltb, ltb-true, ltb-false, eqb-true, eqb-false}
 use Rattle.model.specs.Words.{Shape, height, count, start, row, child}
@@ -13,237 +12,151 @@ use Rattle.model.specs.Paths.{lastOf, above}
 use Rattle.model.specs.declared.path.Position.{Position}
 use Rattle.model.specs.declared.path.Path.{Path}
 use Rattle.model.proofs.Tests.{by-test}
-use Rattle.model.proofs.Sound.{sound-below, begins}
-use Rattle.model.proofs.Frame.{occ-append, occ-nil}
-use Rattle.model.proofs.Writes.{occ-cons}
+use Rattle.model.proofs.Sound.{sound-below, begins, below-trans, chain}
+use Rattle.model.proofs.Frame.{occ-append, occ-nil, occ-self}
+use Rattle.model.proofs.Writes.{occ-cons, occ-here, not-first, not-rest}
 use Rattle.model.proofs.Once.{Held, held-pairs, near-held, once-pairs, once, lower, occ-other}
 use Rattle.law_formed.proofs.Rooted.{inside}
-use Rattle.prune_boundary.specs.Behind.{Done, Above, Behind}
+use Rattle.prune_boundary.specs.Behind.{Passed, limitAt, Done, Above, Behind}
 use Rattle.prune_boundary.specs.Edge.{Meets, firstPairs, firstNodes, wentOf, trimsUp, trimsOn, Climbed}
-use Rattle.prune_boundary.specs.Spine.{Beside, Spine}
-use Rattle.prune_boundary.specs.Trims.{Apart, Untouched}
-use Rattle.prune_boundary.proofs.Right.{right-of}
-use Rattle.prune_boundary.proofs.Joined.{stack-length, beside, spine-up, top-height, lower-apart, depth-low}
+use Rattle.prune_boundary.specs.Trims.{Apart, Trims, Untouched}
+use Rattle.prune_boundary.proofs.Behind.{tall, few}
+use Rattle.prune_boundary.proofs.Boundary.{row-low, led}
 
 -- the nodes of an edge
 unfoldable pub firstsOf : List (ℕ × ℕ) → List ℕ
 firstsOf [] = []
 firstsOf (t ∷ ts) = t .0 ∷ firstsOf ts
 
+pub none : (x : ℕ) → (0 < x → ⊥) → x ≡ 0
+none zero f = refl
+none (suc x) f = absurd (f (omega arith))
+
+apart-of : (n : ℕ) (ts : List (ℕ × ℕ)) → occ n (firstsOf ts) ≡ 0 → Apart n ts
+unfolding firstsOf Apart
+apart-of n [] z = tt
+apart-of n (t ∷ ts) z = (λ e. not-first n (t .0) (firstsOf ts) z (sym e), apart-of n ts (not-rest n (t .0) (firstsOf ts) z))
+
+pub untouched-of : (l : List ℕ) (ts : List (ℕ × ℕ)) → ((m : ℕ) → occ m (firstsOf ts) + occ m l ≤ 1) → Untouched l ts
+unfolding firstsOf Untouched
+untouched-of l [] f = tt
+untouched-of l (t ∷ ts) f = (omega (arith, f (t .0), occ-here (t .0) (firstsOf ts)), untouched-of l ts (λ m. omega (arith, f m, occ-cons m (t .0) (firstsOf ts))))
+
 module _ (C : Shape) (P : ℕ) (w : List ℕ) where
-  gone-parts : (m : ℕ) (t : ℕ × ℕ) (ts : List (ℕ × ℕ)) → occ m (wentOf C w (t ∷ ts)) ≡ occ m (firstNodes C w (height C w (t .0)) (t .0) (t .1)) + occ m (wentOf C w ts)
-  unfolding wentOf
-  gone-parts m t ts = occ-append m (firstNodes C w (height C w (t .0)) (t .0) (t .1)) (wentOf C w ts)
-
   module _ (m : ℕ) where
-    pairs-lower : (h : ℕ) (ps : List (ℕ × Level h)) (b : Limit) → allPairs (Held C P w h) ps b → 0 < occ m (inPairs (nodes h) ps) → height C w m < h
-    unfolding allPairs inPairs Held
-    pairs-lower h [] b a p = absurd (omega (arith, occ-nil m))
-    pairs-lower h (k ∷ ps) b a p =
-        by-test (ltb 0 (occ m (nodes h (k .1))))
-        (λ t. let x = a .0 in
-        subst (λ (y : Level h). 0 < occ m (nodes h y) → height C w m < h) (sym (x .1 .1)) (lower C P w m h (x .1 .0) (k .0) (next ps b) (subst (λ (y : Level h). AllSound C P h y (k .0) (next ps b)) (x .1 .1) (x .0))) (ltb-true 0 (occ m (nodes h (k .1))) t))
-        (λ t. pairs-lower h ps b (a .1) (omega (arith, p, ltb-false 0 (occ m (nodes h (k .1))) t, occ-append m (nodes h (k .1)) (inPairs (nodes h) ps))))
+    -- node m lies below height g, in the pool, and in the rows from r to b
+    abbrev Within : ℕ → ℕ → Limit → Type 0
+    Within g r b = (height C w m < g) × (m < P) × (r ≤ start C w m) × Under (start C w m) b
 
-    -- a node at least as high as n is none below it
-    beside-lower : (h n k : ℕ) → Beside C P w h n k → h ≤ height C w m → occ m (firstNodes C w (height C w n) n k) ≡ 0
-    beside-lower h n k b l =
-        by-test (ltb 0 (occ m (firstNodes C w h n k)))
-        (λ t. absurd (omega (arith, l, pairs-lower h (firstPairs C w h n k) (b .bound) (held-pairs C P w h n 0 k (b .bound) (b .good)) (ltb-true 0 (occ m (firstNodes C w h n k)) t))))
-        (λ t. ap (λ (j : ℕ). occ m (firstNodes C w j n k)) (b .high) ∙ (let z : occ m (firstNodes C w h n k) ≡ 0 = omega (arith, ltb-false 0 (occ m (firstNodes C w h n k)) t) in z))
+    held-under : (g : ℕ) (x : Level g) (r : ℕ) (b : Limit) → Held C P w g x r b → Under r b
+    unfolding Held
+    held-under g x r b q = sound-below C P g x r b (q .0)
 
-    spine-lower : (h : ℕ) (ts : List (ℕ × ℕ)) → Spine C P w h ts → h ≤ height C w m → occ m (wentOf C w ts) ≡ 0
-    unfolding Spine wentOf
-    spine-lower h [] s l = occ-nil m
-    spine-lower h (t ∷ []) s l = omega (arith, gone-parts m t [], beside-lower h (t .0) (t .1) s l, spine-lower h [] tt l)
-    spine-lower h (t ∷ u ∷ ts) s l = omega (arith, gone-parts m t (u ∷ ts), beside-lower h (t .0) (t .1) (s .own) l, spine-lower (h - 1) (u ∷ ts) (s .after) (omega arith))
+    in-child : (g : ℕ) (x : Level g) (r : ℕ) (b : Limit) → Held C P w g x r b → 0 < occ m (nodes g x) → Within g r b
+    unfolding Held
+    in-child g x r b q p =
+        let low = subst (λ (y : Level g). AllSound C P g y r b → 0 < occ m (nodes g y) → height C w m < g) (sym (q .1 .1)) (lower C P w m g (q .1 .0) r b) (q .0) p in
+        let near = near-held C P w m g x r b q p in
+        (low, by-test (ltb m P) (ltb-true m P) (λ t. absurd (omega (arith, p, inside C P m (ltb-false m P t) g x r b (q .0)))), near .0, near .1)
 
-    -- a node that starts where the entries of n that go end, or later, is none below these
-    beside-right : (h n k r : ℕ) → Beside C P w h n k → allPairs (AllSound C P h) (firstPairs C w h n k) (Below r) → r ≤ start C w m → occ m (firstNodes C w (height C w n) n k) ≡ 0
-    beside-right h n k r b a l = ap (λ (j : ℕ). occ m (firstNodes C w j n k)) (b .high) ∙ right-of C P w m h n k r a l
+    in-pairs : (g : ℕ) (k : ℕ × Level g) (ks : List (ℕ × Level g)) (b : Limit) → allPairs (Held C P w g) (k ∷ ks) b → 0 < occ m (inPairs (nodes g) (k ∷ ks)) → Within g (k .0) b
+    unfolding allPairs inPairs next Under
+    in-pairs g k [] b a p = in-child g (k .1) (k .0) b (a .0) (omega (arith, p, occ-append m (nodes g (k .1)) [], occ-nil m))
+    in-pairs g k (k₂ ∷ ks) b a p =
+        by-test (ltb 0 (occ m (nodes g (k .1))))
+        (λ t. let q = in-child g (k .1) (k .0) (Below (k₂ .0)) (a .0) (ltb-true 0 (occ m (nodes g (k .1))) t) in
+        (q .0, q .1, q .2, below-trans (start C w m) (k₂ .0) b (q .3) (chain (Held C P w g) (held-under g) k₂ ks b (a .1))))
+        (λ t. let q = in-pairs g k₂ ks b (a .1) (omega (arith, p, ltb-false 0 (occ m (nodes g (k .1))) t, occ-append m (nodes g (k .1)) (inPairs (nodes g) (k₂ ∷ ks)))) in
+        let l : k .0 < k₂ .0 = held-under g (k .1) (k .0) (Below (k₂ .0)) (a .0) in
+        (q .0, q .1, omega (arith, l, q .2), q .3))
 
-  -- each node of an edge starts at x or later
-  unfoldable From : ℕ → List (ℕ × ℕ) → Type 0
-  From x [] = Unit {0}
-  From x (t ∷ ts) = (x ≤ start C w (t .0)) × From x ts
+    -- the same of the first k entries of node n; m stands below them at most once
+    in-first : (h n k : ℕ) (b : Limit) → allPairs (AllSound C P h) (firstPairs C w h n k) b → 0 < occ m (firstNodes C w h n k) → Within h (row C w n 0) b
+    unfolding pairsFrom inPairs
+    in-first h n zero b a p = absurd (omega (arith, occ-nil m))
+    in-first h n (suc k) b a p = in-pairs h (row C w n 0, level C w h (child C w n 0)) (pairsFrom C w (level C w h) n (0 + 1) k) b (held-pairs C P w h n 0 (suc k) b a) p
 
-  rises-to : (h : ℕ) (t u : ℕ × ℕ) (ts : List (ℕ × ℕ)) → Spine C P w h (t ∷ u ∷ ts) → start C w (t .0) ≤ start C w (u .0)
-  unfolding Spine
-  rises-to h t u ts s =
-      let b = s .own in
-      by-test (ltb 0 (t .1))
-      (λ y. omega (arith, b .first, b .rise 0 (t .1) (ltb-true 0 (t .1) y) (s .keeps), s .begins))
-      (λ y. let e : t .1 ≡ 0 = omega (arith, ltb-false 0 (t .1) y) in omega (arith, b .first, ap (row C w (t .0)) e, s .begins))
+    first-once : (h n k : ℕ) (b : Limit) → allPairs (AllSound C P h) (firstPairs C w h n k) b → occ m (firstNodes C w h n k) ≤ 1
+    unfolding pairsFrom inPairs Held
+    first-once h n zero b a = omega (arith, occ-nil m)
+    first-once h n (suc k) b a =
+        once-pairs C P w m h (near-held C P w m h)
+        (λ x r₂ b₂ q. subst (λ (y : Level h). AllSound C P h y r₂ b₂ → occ m (nodes h y) ≤ 1) (sym (q .1 .1)) (once C P w m h (q .1 .0) r₂ b₂) (q .0))
+        (row C w n 0) b (firstPairs C w h n (suc k)) (begins (level C w h (child C w n 0)) (pairsFrom C w (level C w h) n (0 + 1) k)) (held-pairs C P w h n 0 (suc k) b a)
 
-  spine-from : (x h : ℕ) (t : ℕ × ℕ) (ts : List (ℕ × ℕ)) → Spine C P w h (t ∷ ts) → x ≤ start C w (t .0) → From x (t ∷ ts)
-  unfolding From Spine
-  spine-from x h t [] s l = (l, tt)
-  spine-from x h t (u ∷ ts) s l = (l, spine-from x (h - 1) u ts (s .after) (omega (arith, l, rises-to h t u ts s)))
+  -- The nodes T of an edge from node n of height h down, and those that go: each stands once. Where K holds, the last of T
+  -- keeps an entry, and what goes starts before e
+  pub record Standing (K : Type 0) (e h n : ℕ) (T : List (ℕ × ℕ)) : Type 0 where
+    pub each : (m : ℕ) → occ m (firstsOf T) + occ m (wentOf C w T) ≤ 1
+    pub near : (m : ℕ) → 0 < occ m (firstsOf T) + occ m (wentOf C w T) → (height C w m ≤ h) × (m < P) × (start C w n ≤ start C w m)
+    pub head : 0 < occ n (firstsOf T)
+    pub early : K → (m : ℕ) → 0 < occ m (wentOf C w T) → start C w m < e
+    pub trimmed : K → Trims C P w T
 
-  more-untouched : (x : ℕ) (l₁ l₂ : List ℕ) (ts : List (ℕ × ℕ)) → ((m : ℕ) → x ≤ start C w m → occ m l₁ ≡ 0) → From x ts → Untouched l₂ ts → Untouched (l₁ ++ l₂) ts
-  unfolding From Untouched
-  more-untouched x l₁ l₂ [] f a u = tt
-  more-untouched x l₁ l₂ (t ∷ ts) f a u = (omega (arith, occ-append (t .0) l₁ l₂, f (t .0) (a .0), u .0), more-untouched x l₁ l₂ ts f (a .1) (u .1))
+  -- node n, k of whose entries go, above the nodes T: these lie below it, after b
+  module _ (h n k : ℕ) (up : List Position) (T : List (ℕ × ℕ)) (p : Passed C P w h n up) (b : Limit) (a : allPairs (AllSound C P h) (firstPairs C w h n k) b)
+      (each : (m : ℕ) → occ m (firstsOf T) + occ m (wentOf C w T) ≤ 1)
+      (below : (m : ℕ) → 0 < occ m (firstsOf T) + occ m (wentOf C w T) → (height C w m < h) × (m < P) × (start C w n ≤ start C w m) × (Under (start C w m) b → ⊥)) where
+    parts : (m : ℕ) → (occ m (firstsOf ((n, k) ∷ T)) ≡ occ m (n ∷ []) + occ m (firstsOf T)) × (occ m (wentOf C w ((n, k) ∷ T)) ≡ occ m (firstNodes C w h n k) + occ m (wentOf C w T))
+    unfolding firstsOf wentOf
+    parts m = (occ-cons m n (firstsOf T), occ-append m (firstNodes C w (height C w n) n k) (wentOf C w T) ∙ ap (λ (j : ℕ). occ m (firstNodes C w j n k) + occ m (wentOf C w T)) (tall C P w h n up p))
 
-  -- the law: no node of an edge goes
-  pub edge-untouched : (h : ℕ) (ts : List (ℕ × ℕ)) → Spine C P w h ts → Untouched (wentOf C w ts) ts
-  unfolding Spine Untouched wentOf
-  edge-untouched h [] s = tt
-  edge-untouched h (t ∷ []) s = (spine-lower (t .0) h (t ∷ []) s (omega (arith, s .high)), tt)
-  edge-untouched h (t ∷ u ∷ ts) s =
-      let b = s .own in
-      let x = row C w (t .0) (t .1) in
-      let a : allPairs (AllSound C P h) (firstPairs C w h (t .0) (t .1)) (Below x) = subst (λ (y : Limit). allPairs (AllSound C P h) (firstPairs C w h (t .0) (t .1)) y) (s .ends) (b .good) in (
-        spine-lower (t .0) h (t ∷ u ∷ ts) s (omega (arith, b .high)),
-        more-untouched x (firstNodes C w (height C w (t .0)) (t .0) (t .1)) (wentOf C w (u ∷ ts)) (u ∷ ts) (λ m l. beside-right m h (t .0) (t .1) x b a l)
-            (spine-from x (h - 1) u ts (s .after) (omega (arith, s .begins))) (edge-untouched (h - 1) (u ∷ ts) (s .after)),
-      )
+    own : (m : ℕ) → 0 < occ m (firstNodes C w h n k) → (height C w m < h) × (m < P) × (start C w n ≤ start C w m) × Under (start C w m) b
+    own m o = let q = in-first m h n k b a o in (q .0, q .1, omega (arith, q .2, row-low C P w h n up p 0 (omega arith)), q .3)
 
-  -- where all starts are below e and the last entry that goes ends at e, a node that starts at e or later does not go
-  unfoldable pub EndsBy : ℕ → ℕ → List (ℕ × ℕ) → Type 0
-  EndsBy e h [] = Unit {0}
-  EndsBy e h (t ∷ []) = allPairs (AllSound C P h) (firstPairs C w h (t .0) (t .1)) (Below e) × (start C w (t .0) < e)
-  EndsBy e h (t ∷ u ∷ ts) = EndsBy e (h - 1) (u ∷ ts)
+    by-place : {A : Type 0} (m : ℕ) → (m ≡ n → A) → (occ m (n ∷ []) ≡ 0 → 0 < occ m (firstNodes C w h n k) → A) → (occ m (n ∷ []) ≡ 0 → occ m (firstNodes C w h n k) ≡ 0 → A) → A
+    by-place m f g r =
+        by-test (eqb m n) (λ t. f (eqb-true m n t))
+        (λ t. by-test (ltb 0 (occ m (firstNodes C w h n k)))
+        (λ u. g (occ-other m n (eqb-false m n t)) (ltb-true 0 (occ m (firstNodes C w h n k)) u))
+        (λ u. r (occ-other m n (eqb-false m n t)) (omega (arith, ltb-false 0 (occ m (firstNodes C w h n k)) u))))
 
-  first-below : (e h : ℕ) (t : ℕ × ℕ) (ts : List (ℕ × ℕ)) → Spine C P w h (t ∷ ts) → EndsBy e h (t ∷ ts) → start C w (t .0) < e
-  unfolding EndsBy Spine
-  first-below e h t [] s b = b .1
-  first-below e h t (u ∷ ts) s b = omega (arith, rises-to h t u ts s, first-below e (h - 1) u ts (s .after) b)
+    high : (m : ℕ) → m ≡ n → height C w m ≡ h
+    high m x = ap (height C w) x ∙ tall C P w h n up p
 
-  pub edge-right : (m e h : ℕ) (ts : List (ℕ × ℕ)) → Spine C P w h ts → EndsBy e h ts → e ≤ start C w m → occ m (wentOf C w ts) ≡ 0
-  unfolding Spine EndsBy wentOf
-  edge-right m e h [] s b l = occ-nil m
-  edge-right m e h (t ∷ []) s b l = omega (arith, gone-parts m t [], beside-right m h (t .0) (t .1) e s (b .0) l, edge-right m e h [] tt tt l)
-  edge-right m e h (t ∷ u ∷ ts) s b l =
-      let x = row C w (t .0) (t .1) in
-      let a : allPairs (AllSound C P h) (firstPairs C w h (t .0) (t .1)) (Below x) = subst (λ (y : Limit). allPairs (AllSound C P h) (firstPairs C w h (t .0) (t .1)) y) (s .ends) (s .own .good) in
-      omega (arith, gone-parts m t (u ∷ ts), beside-right m h (t .0) (t .1) x (s .own) a (omega (arith, l, s .begins, first-below e (h - 1) u ts (s .after) b)), edge-right m e (h - 1) (u ∷ ts) (s .after) b l)
+    -- no node as high as n lies below it
+    none-high : (m : ℕ) → m ≡ n → (occ m (firstNodes C w h n k) ≡ 0) × (occ m (firstsOf T) + occ m (wentOf C w T) ≡ 0)
+    none-high m x = (none _ (λ o. omega (arith, high m x, own m o .0)), none _ (λ o. omega (arith, high m x, below m o .0)))
 
-  both-root : (e root h n k : ℕ) (up : List Position) (T : List (ℕ × ℕ)) → h + length up ≤ 31 → Above C P w root h n up → Spine C P w h ((n, k) ∷ T) → EndsBy e h ((n, k) ∷ T)
-      → (x : ℕ) × Spine C P w x (trimsUp up ((n, k) ∷ T)) × EndsBy e x (trimsUp up ((n, k) ∷ T))
-  unfolding Above trimsUp EndsBy
-  both-root e root h n k [] T l a s b = (h, s, b)
-  both-root e root h n k (q ∷ up) T l a s b =
-      let z : suc h - 1 ≡ h = omega arith in
-      both-root e root (suc h) (q .node .0) (q .index - 1) up ((n, k) ∷ T) (omega arith) (a .above) (spine-up C P w root h n k q up T (omega arith) a s) (subst (λ (j : ℕ). EndsBy e j ((n, k) ∷ T)) (sym z) b)
+    add : {K : Type 0} (e : ℕ) → (K → (s : ℕ) → Under s b → s < e) → (K → (m : ℕ) → 0 < occ m (wentOf C w T) → start C w m < e) → (K → k < count C w n) → (K → Trims C P w T) → Standing K e h n ((n, k) ∷ T)
+    unfolding Trims
+    add e ends early keeps trimmed =
+        record {
+          each = λ m. (let o = parts m in
+              by-place m (λ x. omega (arith, o .0, o .1, none-high m x .0, none-high m x .1, ap (λ (j : ℕ). occ j (n ∷ [])) x, occ-self n))
+              (λ z y. omega (arith, o .0, o .1, first-once m h n k b a, none (occ m (firstsOf T) + occ m (wentOf C w T)) (λ v. below m v .3 (own m y .3))))
+              (λ z y. omega (arith, o .0, o .1, each m)));
+          near = λ m o. by-place m (λ x. (omega (arith, high m x), rw x (p .inside), rw x (omega arith)))
+              (λ z y. (let q = own m y in (omega (arith, q .0), q .1, q .2)))
+              (λ z y. (let q = below m (omega (arith, o, parts m .0, parts m .1)) in (omega (arith, q .0), q .1, q .2)));
+          head = omega (arith, parts n .0, occ-self n);
+          early = λ x m o. by-test (ltb 0 (occ m (firstNodes C w h n k)))
+              (λ u. ends x (start C w m) (own m (ltb-true 0 (occ m (firstNodes C w h n k)) u) .3))
+              (λ u. early x m (omega (arith, o, parts m .1, ltb-false 0 (occ m (firstNodes C w h n k)) u)));
+          trimmed = λ x. record { inside = p .inside; keeps = keeps x; narrow = few C P w h n up p; apart = apart-of n T (omega (arith, none-high n refl .1)); after = trimmed x };
+        }
 
-  -- the law: an edge that was climbed, where its last node keeps an entry
-  pub edge-ends : (e root : ℕ) (p : Path) → Climbed C P w e root p → lastOf p .index < count C w (lastOf p .node .0) → (x : ℕ) × Spine C P w x (trimsOn p) × EndsBy e x (trimsOn p)
-  unfolding Behind Done Spine EndsBy Meets
-  edge-ends e root p c m =
-      let n = lastOf p .node .0 in
-      let k = lastOf p .index in
-      let b = c .cutting .behind in
-      let t = top-height C P w root (height C w n) n (above p) (b .passed) (b .above) in
-      let lo = depth-low C P w e root p c in
-      let q : e ≡ row C w n k = rw (lt-ltb k (count C w n) m) at (c .cutting .lands) in
-      let d : allPairs (AllSound C P (height C w n)) (firstPairs C w (height C w n) n k) (Below (row C w n k)) = rw (lt-ltb k (count C w n) m) at (b .done) in
-      let d₂ = subst (λ (x : ℕ). allPairs (AllSound C P (height C w n)) (firstPairs C w (height C w n) n k) (Below x)) (sym q) d in
-      both-root e root (height C w n) n k (above p) [] (omega (arith, stack-length (p .positions) (p .depth - 1), lo, c .deep)) (b .above) (beside C P w (height C w n) n k (above p) (omega (arith, lo, c .deep)) (b .within) (b .passed) (Below e) d₂) (d₂, c .cutting .below)
+  -- up to the root
+  stands-up : {K : Type 0} (e root h n : ℕ) (up : List Position) (T : List (ℕ × ℕ)) → Above C P w root h n up → start C w n < e → Standing K e h n T → (x : ℕ) × Standing K e x root (trimsUp up T)
+  unfolding Above trimsUp Under
+  stands-up {K} e root h n [] T a l s = (h, subst (λ (m : ℕ). Standing K e h m T) a s)
+  stands-up e root h n (q ∷ up) T a l s =
+      let m = q .node .0 in
+      let j = q .index - 1 in
+      let d = led C P w root h n q up a in
+      stands-up e root (suc h) m up ((m, j) ∷ T) (a .above) (omega (arith, d .2, a .begins))
+      (add (suc h) m j up T (a .passed) (Below (row C w m j)) (d .1) (s .each)
+      (λ x o. let z = s .near x o in (omega (arith, z .0), z .1, omega (arith, z .2, d .2, a .begins), λ (v : start C w x < row C w m j). omega (arith, v, z .2, a .begins)))
+      e (λ x y (v : y < row C w m j). omega (arith, v, a .begins)) (s .early) (λ x. d .0) (s .trimmed))
 
-  -- Each node stands once ------------------------------------------------------------------------------------
-  went-none : (m : ℕ) → occ m (wentOf C w []) ≡ 0
-  unfolding wentOf
-  went-none m = occ-nil m
-
-  occ-most : (m n : ℕ) → occ m (n ∷ []) ≤ 1
-  unfolding occ
-  occ-most m n = by-test (eqb m n) (λ t. rw t (omega arith)) (λ t. rw t (omega arith))
-
-  held-under : (g : ℕ) (x : Level g) (r : ℕ) (b : Limit) → Held C P w g x r b → Under r b
-  unfolding Held
-  held-under g x r b q = sound-below C P g x r b (q .0)
-
-  -- a node below pairs starts at or after the first of them
-  starts : (m g : ℕ) (k : ℕ × Level g) (ks : List (ℕ × Level g)) (b : Limit) → allPairs (Held C P w g) (k ∷ ks) b → 0 < occ m (inPairs (nodes g) (k ∷ ks)) → k .0 ≤ start C w m
-  unfolding allPairs inPairs next Under
-  starts m g k [] b a p = near-held C P w m g (k .1) (k .0) b (a .0) (omega (arith, p, occ-append m (nodes g (k .1)) [], occ-nil m)) .0
-  starts m g k (k₂ ∷ ks) b a p =
-      by-test (ltb 0 (occ m (nodes g (k .1))))
-      (λ t. near-held C P w m g (k .1) (k .0) (Below (k₂ .0)) (a .0) (ltb-true 0 (occ m (nodes g (k .1))) t) .0)
-      (λ t. let u : k .0 < k₂ .0 = held-under g (k .1) (k .0) (Below (k₂ .0)) (a .0) in
-      omega (arith, u, starts m g k₂ ks b (a .1) (omega (arith, p, ltb-false 0 (occ m (nodes g (k .1))) t, occ-append m (nodes g (k .1)) (inPairs (nodes g) (k₂ ∷ ks))))))
-
-  pairs-start : (m h n k : ℕ) (b : Limit) → allPairs (AllSound C P h) (firstPairs C w h n k) b → 0 < occ m (firstNodes C w h n k) → row C w n 0 ≤ start C w m
-  unfolding pairsFrom inPairs
-  pairs-start m h n zero b a p = absurd (omega (arith, occ-nil m))
-  pairs-start m h n (suc k) b a p = starts m h (row C w n 0, level C w h (child C w n 0)) (pairsFrom C w (level C w h) n (0 + 1) k) b (held-pairs C P w h n 0 (suc k) b a) p
-
-  pairs-each : (m h n k : ℕ) (b : Limit) → allPairs (AllSound C P h) (firstPairs C w h n k) b → occ m (firstNodes C w h n k) ≤ 1
-  unfolding pairsFrom inPairs Held
-  pairs-each m h n zero b a = omega (arith, occ-nil m)
-  pairs-each m h n (suc k) b a =
-      once-pairs C P w m h (near-held C P w m h)
-      (λ x r₂ b₂ hx. subst (λ (y : Level h). occ m (nodes h y) ≤ 1) (sym (hx .1 .1)) (once C P w m h (hx .1 .0) r₂ b₂ (subst (λ (y : Level h). AllSound C P h y r₂ b₂) (hx .1 .1) (hx .0))))
-      (row C w n 0) b (firstPairs C w h n (suc k)) (begins (level C w h (child C w n 0)) (pairsFrom C w (level C w h) n (0 + 1) k)) (held-pairs C P w h n 0 (suc k) b a)
-
-  module _ (m : ℕ) where
-    none-of : (ts : List (ℕ × ℕ)) → Apart m ts → occ m (firstsOf ts) ≡ 0
-    unfolding Apart firstsOf
-    none-of [] a = occ-nil m
-    none-of (t ∷ ts) a = omega (arith, occ-cons m (t .0) (firstsOf ts), occ-other m (t .0) (λ e. a .0 (sym e)), none-of ts (a .1))
-
-    -- nodes of an edge and those that go start at or after its first node
-    first-after : (x : ℕ) (ts : List (ℕ × ℕ)) → From x ts → 0 < occ m (firstsOf ts) → x ≤ start C w m
-    unfolding From firstsOf
-    first-after x [] f l = absurd (omega (arith, occ-nil m))
-    first-after x (t ∷ ts) f l =
-        by-test (eqb m (t .0))
-        (λ y. omega (arith, f .0, ap (start C w) (eqb-true m (t .0) y)))
-        (λ y. first-after x ts (f .1) (omega (arith, l, occ-cons m (t .0) (firstsOf ts), occ-other m (t .0) (eqb-false m (t .0) y))))
-
-    near : (h n k : ℕ) → Beside C P w h n k → 0 < occ m (firstNodes C w (height C w n) n k) → start C w n ≤ start C w m
-    near h n k b l =
-        let p : 0 < occ m (firstNodes C w h n k) = omega (arith, l, ap (λ (j : ℕ). occ m (firstNodes C w j n k)) (b .high)) in
-        omega (arith, b .first, pairs-start m h n k (b .bound) (b .good) p)
-
-    went-after : (h : ℕ) (t : ℕ × ℕ) (ts : List (ℕ × ℕ)) → Spine C P w h (t ∷ ts) → 0 < occ m (wentOf C w (t ∷ ts)) → start C w (t .0) ≤ start C w m
-    unfolding Spine
-    went-after h t [] s l = near h (t .0) (t .1) s (omega (arith, l, gone-parts m t [], went-none m))
-    went-after h t (u ∷ ts) s l =
-        by-test (ltb 0 (occ m (firstNodes C w (height C w (t .0)) (t .0) (t .1))))
-        (λ y. near h (t .0) (t .1) (s .own) (ltb-true 0 (occ m (firstNodes C w (height C w (t .0)) (t .0) (t .1))) y))
-        (λ y. omega (arith, rises-to h t u ts s, went-after (h - 1) u ts (s .after) (omega (arith, l, gone-parts m t (u ∷ ts), ltb-false 0 (occ m (firstNodes C w (height C w (t .0)) (t .0) (t .1))) y))))
-
-    beside-once : (h n k : ℕ) → Beside C P w h n k → occ m (firstNodes C w (height C w n) n k) ≤ 1
-    beside-once h n k b = subst (λ (j : ℕ). occ m (firstNodes C w j n k) ≤ 1) (sym (b .high)) (pairs-each m h n k (b .bound) (b .good))
-
-    -- the law: a node stands once among those of an edge and those that go
-    pub spine-each : (h : ℕ) (ts : List (ℕ × ℕ)) → Spine C P w h ts → occ m (firstsOf ts) + occ m (wentOf C w ts) ≤ 1
-    unfolding Spine firstsOf
-    spine-each h [] s = omega (arith, occ-nil m, went-none m)
-    spine-each h (t ∷ []) s =
-        by-test (eqb m (t .0))
-        (λ y. let e : m ≡ t .0 = eqb-true m (t .0) y in omega (arith, occ-cons m (t .0) [], occ-nil m, occ-most m (t .0), spine-lower m h (t ∷ []) s (omega (arith, s .high, ap (height C w) e))))
-        (λ y. omega (arith, occ-cons m (t .0) [], occ-nil m, occ-other m (t .0) (eqb-false m (t .0) y), gone-parts m t [], went-none m, beside-once h (t .0) (t .1) s))
-    spine-each h (t ∷ u ∷ ts) s =
-        let b = s .own in
-        let x = row C w (t .0) (t .1) in
-        let ih = spine-each (h - 1) (u ∷ ts) (s .after) in
-        let a : allPairs (AllSound C P h) (firstPairs C w h (t .0) (t .1)) (Below x) = subst (λ (y : Limit). allPairs (AllSound C P h) (firstPairs C w h (t .0) (t .1)) y) (s .ends) (b .good) in
-        by-test (eqb m (t .0))
-        (λ y. let e : m ≡ t .0 = eqb-true m (t .0) y in
-        let z : occ m (firstsOf (u ∷ ts)) ≡ 0 = none-of (u ∷ ts) (subst (λ (v : ℕ). Apart v (u ∷ ts)) (sym e) (lower-apart C P w (t .0) (h - 1) u ts (s .after) (omega (arith, s .up, b .high)))) in
-        omega (arith, occ-cons m (t .0) (firstsOf (u ∷ ts)), z, occ-most m (t .0), spine-lower m h (t ∷ u ∷ ts) s (omega (arith, b .high, ap (height C w) e))))
-        (λ y. by-test (ltb x (start C w m + 1))
-        (λ v. omega (arith, ih, occ-cons m (t .0) (firstsOf (u ∷ ts)), occ-other m (t .0) (eqb-false m (t .0) y), gone-parts m t (u ∷ ts), beside-right m h (t .0) (t .1) x b a (omega (arith, ltb-true x (start C w m + 1) v))))
-        (λ v. let under : start C w m < x = omega (arith, ltb-false x (start C w m + 1) v) in
-        let f : occ m (firstsOf (u ∷ ts)) ≡ 0 = by-test (ltb 0 (occ m (firstsOf (u ∷ ts)))) (λ o. absurd (omega (arith, under, first-after x (u ∷ ts) (spine-from x (h - 1) u ts (s .after) (omega (arith, s .begins))) (ltb-true 0 (occ m (firstsOf (u ∷ ts))) o)))) (λ o. omega (arith, ltb-false 0 (occ m (firstsOf (u ∷ ts))) o)) in
-        let g : occ m (wentOf C w (u ∷ ts)) ≡ 0 = by-test (ltb 0 (occ m (wentOf C w (u ∷ ts)))) (λ o. absurd (omega (arith, under, s .begins, went-after (h - 1) u ts (s .after) (ltb-true 0 (occ m (wentOf C w (u ∷ ts))) o)))) (λ o. omega (arith, ltb-false 0 (occ m (wentOf C w (u ∷ ts))) o)) in
-        omega (arith, f, g, occ-cons m (t .0) (firstsOf (u ∷ ts)), occ-other m (t .0) (eqb-false m (t .0) y), gone-parts m t (u ∷ ts), beside-once h (t .0) (t .1) b)))
-
-    -- all of them are in the pool
-    module _ (l : P ≤ m) where
-      pairs-in : (h : ℕ) (ps : List (ℕ × Level h)) (b : Limit) → allPairs (AllSound C P h) ps b → occ m (inPairs (nodes h) ps) ≡ 0
-      unfolding allPairs inPairs
-      pairs-in h [] b a = occ-nil m
-      pairs-in h (k ∷ ps) b a = omega (arith, occ-append m (nodes h (k .1)) (inPairs (nodes h) ps), inside C P m l h (k .1) (k .0) (next ps b) (a .0), pairs-in h ps b (a .1))
-
-      beside-in : (h n k : ℕ) → Beside C P w h n k → occ m (firstNodes C w (height C w n) n k) ≡ 0
-      beside-in h n k b = ap (λ (j : ℕ). occ m (firstNodes C w j n k)) (b .high) ∙ pairs-in h (firstPairs C w h n k) (b .bound) (b .good)
-
-      pub spine-inside : (h : ℕ) (ts : List (ℕ × ℕ)) → Spine C P w h ts → occ m (wentOf C w ts) ≡ 0
-      unfolding Spine
-      spine-inside h [] s = went-none m
-      spine-inside h (t ∷ []) s = omega (arith, gone-parts m t [], went-none m, beside-in h (t .0) (t .1) s)
-      spine-inside h (t ∷ u ∷ ts) s = omega (arith, gone-parts m t (u ∷ ts), beside-in h (t .0) (t .1) (s .own), spine-inside (h - 1) (u ∷ ts) (s .after))
+-- the law
+pub edge-stands : {C : Shape} {P : ℕ} {w : List ℕ} {e root : ℕ} {p : Path} → Climbed C P w e root p → (x : ℕ) × Standing C P w (lastOf p .index < count C w (lastOf p .node .0)) e x root (trimsOn p)
+unfolding Behind Done Meets Under Trims firstsOf wentOf
+edge-stands {C} {P} {w} {e} {root} {p} c =
+    let n = lastOf p .node .0 in
+    let k = lastOf p .index in
+    let b = c .cutting .behind in
+    stands-up C P w e root (height C w n) n (above p) ((n, k) ∷ []) (b .above) (c .cutting .below)
+    (add C P w (height C w n) n k (above p) [] (b .passed) (limitAt C P w (height C w n) n k (above p)) (b .done) (λ m. omega (arith, occ-nil m)) (λ m o. absurd (omega (arith, o, occ-nil m)))
+    e (λ x s u. let v : s < row C w n k = rw (lt-ltb k (count C w n) x) at u in let q : e ≡ row C w n k = rw (lt-ltb k (count C w n) x) at (c .cutting .lands) in omega arith)
+    (λ x m o. absurd (omega (arith, o, occ-nil m))) (λ x. x) (λ x. tt))

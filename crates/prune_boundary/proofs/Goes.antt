@@ -1,19 +1,16 @@
 -- What lies below a row goes; pairs that go stand in front of those that stay.
-use Prim.Native.Nat.{ℕ, zero, suc, _+_, _-_, _<_, _≤_}
+use Prim.Native.Nat.{ℕ, zero, suc, _+_, _<_, _≤_}
 use mathlib.Core.List.{List, [], _∷_, _++_, append-nil, append-assoc}
-use mathlib.Core.Bool.{true, false}
 use mathlib.Core.Path.{_≡_, refl, sym, ap, _∙_, subst}
 use native.Mathlib.Omega.{arith}
-use lib.ListN.{length}
-use lib.Dec.{ltb}
-use borrow.Author.Tests.{lt-ltb, le-ltb}
-use Rattle.model.specs.Words.{Shape, pick, part, count, row, child}
-use Rattle.model.specs.Tree.{Node, Limit, Open, Below, Level, pairsFrom, level, next, last, sound, allPairs, Under, AllSound}
+use borrow.Author.Tests.{lt-ltb}
+use Rattle.model.specs.Words.{Shape, row, child}
+use Rattle.model.specs.Tree.{Limit, Below, Level, pairsFrom, next, allPairs, Under, AllSound}
 use Rattle.model.specs.Reading.{inPairs, nodes}
-use Rattle.model.specs.Cut.{Rest, gone, stays, ifGone, keep, cutPairs, trim, cut, wentPairs, went, trimsPairs, trims}
+use Rattle.model.specs.Cut.{Rest, gone, ifGone, keep, cutPairs, trim, cut, wentPairs, went, trimsPairs}
 use Rattle.model.proofs.Sound.{chain, sound-below, sound-ends, last-is}
-use Rattle.law_prune.proofs.Rests.{by-rest, gone-not}
-use Rattle.law_prune.proofs.Went.{ofRest, pairs-went, rest-nodes}
+use Rattle.law_prune.proofs.Rests.{by-rest}
+use Rattle.law_prune.proofs.Went.{pairs-went, rest-nodes}
 
 module _ {K : Type 0} (e : ℕ) (f : K → ℕ → Rest K) where
   pub first-gone : (p : ℕ × K) (ps : List (ℕ × K)) → cutPairs e f (p ∷ ps) ≡ [] → (f (p .1) (p .0) ≡ gone) × (cutPairs e f ps ≡ [])

@@ -2,7 +2,6 @@ pub mod Behind
 pub mod Goes
 pub mod Boundary
 pub mod Went
-pub mod Right
 pub mod Joined
 pub mod Distinct
 pub mod Climbs

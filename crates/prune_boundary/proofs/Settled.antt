@@ -5,9 +5,7 @@ use mathlib.Core.Path.{_≡_, refl, sym, ap, _∙_}
 use native.Mathlib.Omega.{arith}
 use native.Mathlib.Nat.{zero-add, add-zero}
 use lib.ListN.{getD}
-use lib.Dec.{ltb}
 use borrow.Author.Tests.{lt-ltb, le-ltb}
-use Rattle.model.specs.Words.{pick}
 use Rattle.model.specs.Paths.{noPosition, stack, lastOf}
 use Rattle.model.specs.declared.path.Position.{Position}
 use Rattle.model.specs.declared.path.Path.{Path}
@@ -58,5 +56,4 @@ module _ (p q : Path) (d : ℕ) (s : Settled p q d) (z : 0 < p .depth) (m : p .d
       let j = p .depth - 1 in
       let e : p .depth ≡ suc j = omega arith in
       let a : getD (q .positions) j noPosition ≡ lastOf p = s .each j (omega arith) ∙ ap (λ (k : ℕ). record { node = lastOf p .node; index = k }) (goes-last (p .depth) j (lastOf p .index) (omega arith)) in
-      ap (trimsFrom (q .positions) 0) (s .depth-is ∙ e) ∙ from-last (q .positions) 0 j ∙ ap (λ (i : ℕ). trimsFrom (q .positions) 0 j ++ ((getD (q .positions) i noPosition .node .0, getD (q .positions) i noPosition .index) ∷ [])) (zero-add j)
-      ∙ ap (λ (y : Position). trimsFrom (q .positions) 0 j ++ ((y .node .0, y .index) ∷ [])) a ∙ sym (above-is j (omega arith) ((lastOf p .node .0, lastOf p .index) ∷ []))
+      ap (trimsFrom (q .positions) 0) (s .depth-is ∙ e) ∙ rw (from-last (q .positions) 0 j, zero-add j, a) (sym (above-is j (omega arith) ((lastOf p .node .0, lastOf p .index) ∷ [])))

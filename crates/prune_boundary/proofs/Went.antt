@@ -1,15 +1,15 @@
 -- The nodes that go: how they grow as a reading goes on, and that they come first in postorder.
 use Prim.Native.Nat.{ℕ, zero, suc, _+_, _-_, _<_, _≤_}
 use mathlib.Core.List.{List, [], _∷_, _++_, append-nil, append-assoc}
-use mathlib.Core.Path.{_≡_, refl, sym, ap, _∙_, subst}
+use mathlib.Core.Path.{_≡_, refl, sym, ap, _∙_}
 use mathlib.Core.Logic.{_⊎_, inl, inr, ⊎-elim}
 use native.Mathlib.Omega.{arith}
 use native.Mathlib.Nat.{zero-add}
-use lib.ListN.{getD, length, take}
+use lib.ListN.{length, take}
 use Rattle.model.specs.Words.{Shape, height, count, row, child}
-use Rattle.model.specs.Tree.{Level, pairsFrom, level}
+use Rattle.model.specs.Tree.{pairsFrom, level}
 use Rattle.model.specs.Reading.{inPairs, nodes, rootNodes}
-use Rattle.model.specs.Paths.{noPosition, stack, lastOf, above, turned, entered, rooted}
+use Rattle.model.specs.Paths.{stack, lastOf, above, rooted}
 use Rattle.model.specs.declared.path.Position.{Position}
 use Rattle.model.specs.declared.path.Path.{Path}
 use Rattle.model.proofs.Paths.{stack-pop}
@@ -62,9 +62,7 @@ module _ (C : Shape) (P : ℕ) (w : List ℕ) where
 
   first-more : (h n k : ℕ) → firstNodes C w h n (suc k) ≡ firstNodes C w h n k ++ nodes h (level C w h (child C w n k))
   unfolding inPairs
-  first-more h n k =
-      ap (λ (ps : List (ℕ × Level h)). inPairs (nodes h) ps) (pairs-snoc C w (level C w h) n 0 k) ∙ in-append (nodes h) (firstPairs C w h n k) ((row C w n (0 + k), level C w h (child C w n (0 + k))) ∷ [])
-      ∙ ap (λ (l : List ℕ). firstNodes C w h n k ++ l) (append-nil (nodes h (level C w h (child C w n (0 + k)))) ∙ rw (zero-add k))
+  first-more h n k = rw (pairs-snoc C w (level C w h) n 0 k, zero-add k, in-append (nodes h) (firstPairs C w h n k) ((row C w n k, level C w h (child C w n k)) ∷ []), append-nil (nodes h (level C w h (child C w n k))))
 
   all-nodes : (h n : ℕ) → nodes (suc h) (level C w (suc h) n) ≡ firstNodes C w h n (count C w n) ++ (n ∷ [])
   unfolding nodes level
@@ -90,20 +88,12 @@ module _ (C : Shape) (P : ℕ) (w : List ℕ) where
   went-out root h n k q up p a o =
       let m = q .node .0 in
       let j = q .index - 1 in
-      let F = wentOf C w (trimsUp up []) in
-      let A = firstNodes C w (suc h) m j in
       let own : firstNodes C w h n (count C w n) ≡ firstNodes C w h n k =
       ⊎-elim (λ (z : h ≡ 0). first-leaf h n 0 (count C w n) z ∙ sym (first-leaf h n 0 k z)) (λ (z : k ≡ count C w n). ap (firstNodes C w h n) (sym z)) o in
-      let kid : nodes (suc h) (level C w (suc h) (child C w m j)) ≡ firstNodes C w h n k ++ (n ∷ []) =
-      ap (λ (x : ℕ). nodes (suc h) (level C w (suc h) x)) (sym (a .leads)) ∙ all-nodes h n ∙ ap (λ (l : List ℕ). l ++ (n ∷ [])) own in
+      let kid : nodes (suc h) (level C w (suc h) (child C w m j)) ≡ firstNodes C w h n k ++ (n ∷ []) = rw (← a .leads) (all-nodes h n ∙ rw own) in
       let y : q .index ≡ suc j = omega (arith, a .some) in
-      let after : firstNodes C w (height C w m) m (q .index) ≡ A ++ (firstNodes C w h n k ++ (n ∷ [])) =
-      ap (λ (x : ℕ). firstNodes C w x m (q .index)) (tall C P w (suc h) m up (a .passed)) ∙ ap (firstNodes C w (suc h) m) y ∙ first-more (suc h) m j ∙ ap (λ (l : List ℕ). A ++ l) kid in
-      let before : wentOf C w (trimsUp up ((m, j) ∷ (n, k) ∷ [])) ≡ F ++ (A ++ firstNodes C w h n k) =
-      went-up up ((m, j) ∷ (n, k) ∷ [])
-      ∙ ap (λ (l : List ℕ). F ++ l) (ap (λ (x : ℕ). firstNodes C w x m j ++ (firstNodes C w (height C w n) n k ++ [])) (tall C P w (suc h) m up (a .passed)) ∙ ap (λ (l : List ℕ). A ++ l) (append-nil (firstNodes C w (height C w n) n k) ∙ ap (λ (x : ℕ). firstNodes C w x n k) (tall C P w h n (q ∷ up) p))) in
-      went-up up ((m, q .index) ∷ []) ∙ ap (λ (l : List ℕ). F ++ l) (append-nil (firstNodes C w (height C w m) m (q .index)) ∙ after ∙ sym (append-assoc A (firstNodes C w h n k) (n ∷ [])))
-      ∙ sym (append-assoc F (A ++ firstNodes C w h n k) (n ∷ [])) ∙ ap (λ (l : List ℕ). l ++ (n ∷ [])) (sym before)
+      let after : firstNodes C w (suc h) m (q .index) ≡ firstNodes C w (suc h) m j ++ (firstNodes C w h n k ++ (n ∷ [])) = ap (firstNodes C w (suc h) m) y ∙ first-more (suc h) m j ∙ rw kid in
+      rw (went-up up ((m, q .index) ∷ []), went-up up ((m, j) ∷ (n, k) ∷ []), tall C P w (suc h) m up (a .passed), tall C P w h n (q ∷ up) p, after) (simp (append-assoc, append-nil))
 
   -- The same on a path ------------------------------------------------------------------------------------
   pub went-rooted : (n : ℕ) → [] ≡ wentOf C w (trimsOn (rooted n))
@@ -116,11 +106,8 @@ module _ (C : Shape) (P : ℕ) (w : List ℕ) where
     went-entered l d c =
         let y : p .depth + 1 - 1 ≡ p .depth = omega arith in
         let i : lastOf p .index + 1 - 1 ≡ lastOf p .index = omega arith in
-        let a : above (enteredPath p c) ≡ turned (lastOf p) ∷ above p = ap (stack (enteredPath p c .positions)) y ∙ entered-under p z l c (omega arith) in
-        let q : lastOf (enteredPath p c) ≡ entered c = ap (λ (j : ℕ). getD (enteredPath p c .positions) j noPosition) y ∙ entered-last p z l c d in
-        sym (ap (λ (st : List Position). wentOf C w (trimsUp st ((lastOf (enteredPath p c) .node .0, lastOf (enteredPath p c) .index) ∷ []))) a
-        ∙ ap (λ (x : Position). wentOf C w (trimsUp (turned (lastOf p) ∷ above p) ((x .node .0, x .index) ∷ []))) q
-        ∙ ap (λ (j : ℕ). wentOf C w (trimsUp (above p) ((lastOf p .node .0, j) ∷ (c, 0) ∷ []))) i ∙ went-in (above p) (lastOf p .node .0) (lastOf p .index) c)
+        rw (y, entered-under p z l c (omega arith), entered-last p z l c d)
+        (sym (ap (λ (j : ℕ). wentOf C w (trimsUp (above p) ((lastOf p .node .0, j) ∷ (c, 0) ∷ []))) i ∙ went-in (above p) (lastOf p .node .0) (lastOf p .index) c))
 
     pub went-popped : (root : ℕ) → Behind C P w root (height C w (lastOf p .node .0)) (lastOf p ∷ above p) → 1 < p .depth → (height C w (lastOf p .node .0) ≡ 0) ⊎ (count C w (lastOf p .node .0) ≤ lastOf p .index)
         → wentOf C w (trimsOn (popped p)) ≡ wentOf C w (trimsOn p) ++ (lastOf p .node .0 ∷ [])
@@ -128,9 +115,8 @@ module _ (C : Shape) (P : ℕ) (w : List ℕ) where
     went-popped root b₀ l o =
         let n = lastOf p .node .0 in
         let over : above p ≡ lastOf (popped p) ∷ above (popped p) = stack-pop (p .positions) (p .depth - 1) (omega arith) in
-        let b = subst (λ (st : List Position). Behind C P w root (height C w n) (lastOf p ∷ st)) over b₀ in
-        went-out root (height C w n) n (lastOf p .index) (lastOf (popped p)) (above (popped p)) (b .passed) (b .above) (⊎-elim (λ (e : height C w n ≡ 0). inl e) (λ (m : count C w n ≤ lastOf p .index). inr (omega (arith, b .within))) o)
-        ∙ ap (λ (st : List Position). wentOf C w (trimsUp st ((n, lastOf p .index) ∷ [])) ++ (n ∷ [])) (sym over)
+        let b = rw over at b₀ in
+        rw over (went-out root (height C w n) n (lastOf p .index) (lastOf (popped p)) (above (popped p)) (b .passed) (b .above) (⊎-elim (λ (e : height C w n ≡ 0). inl e) (λ (m : count C w n ≤ lastOf p .index). inr (omega (arith, b .within))) o))
 
   -- The order ----------------------------------------------------------------------------------------------
 
@@ -138,11 +124,8 @@ module _ (C : Shape) (P : ℕ) (w : List ℕ) where
   first-of : (h n k : ℕ) → k ≤ count C w n → (more : List ℕ) × (nodes (suc h) (level C w (suc h) n) ≡ firstNodes C w h n k ++ more)
   first-of h n k l =
       let z : count C w n ≡ k + (count C w n - k) = omega arith in
-      let qs = pairsFrom C w (level C w h) n (0 + k) (count C w n - k) in (
-        inPairs (nodes h) qs ++ (n ∷ []),
-        all-nodes h n ∙ ap (λ (ns : List ℕ). ns ++ (n ∷ [])) (ap (firstNodes C w h n) z ∙ ap (λ (ps : List (ℕ × Level h)). inPairs (nodes h) ps) (pairs-split C w (level C w h) n 0 k (count C w n - k)) ∙ in-append (nodes h) (firstPairs C w h n k) qs)
-            ∙ append-assoc (firstNodes C w h n k) (inPairs (nodes h) qs) (n ∷ []),
-      )
+      let qs = pairsFrom C w (level C w h) n (0 + k) (count C w n - k) in
+      (inPairs (nodes h) qs ++ (n ∷ []), all-nodes h n ∙ ap (λ (c : ℕ). firstNodes C w h n c ++ (n ∷ [])) z ∙ rw (pairs-split C w (level C w h) n 0 k (count C w n - k), in-append (nodes h) (firstPairs C w h n k) qs, append-assoc))
 
   -- and so on up to the root
   up-to : (root h n : ℕ) (T : List (ℕ × ℕ)) (up : List Position) → Passed C P w h n up → Above C P w root h n up → (more : List ℕ) × (nodes (suc h) (level C w (suc h) n) ≡ wentOf C w T ++ more)
@@ -153,16 +136,9 @@ module _ (C : Shape) (P : ℕ) (w : List ℕ) where
   up-to root h n T (q ∷ up) p a s =
       let m = q .node .0 in
       let j = q .index - 1 in
-      let A = firstNodes C w (suc h) m j in
-      let y : suc j ≤ count C w m = omega (arith, a .some, a .within) in
-      let b = first-of (suc h) m (suc j) y in
-      let kid : nodes (suc h) (level C w (suc h) (child C w m j)) ≡ wentOf C w T ++ s .0 = ap (λ (x : ℕ). nodes (suc h) (level C w (suc h) x)) (sym (a .leads)) ∙ s .1 in
-      let hi : firstNodes C w (height C w m) m j ≡ A = ap (λ (x : ℕ). firstNodes C w x m j) (tall C P w (suc h) m up (a .passed)) in
-      up-to root (suc h) m ((m, j) ∷ T) up (a .passed) (a .above) (
-        s .0 ++ b .0,
-        b .1 ∙ ap (λ (l : List ℕ). l ++ b .0) (first-more (suc h) m j ∙ ap (λ (l : List ℕ). A ++ l) kid ∙ sym (append-assoc A (wentOf C w T) (s .0)))
-            ∙ append-assoc (A ++ wentOf C w T) (s .0) (b .0) ∙ ap (λ (l : List ℕ). (l ++ wentOf C w T) ++ (s .0 ++ b .0)) (sym hi),
-      )
+      let b = first-of (suc h) m (suc j) (omega (arith, a .some, a .within)) in
+      let kid : nodes (suc h) (level C w (suc h) (child C w m j)) ≡ wentOf C w T ++ s .0 = rw (← a .leads) (s .1) in
+      up-to root (suc h) m ((m, j) ∷ T) up (a .passed) (a .above) (s .0 ++ b .0, b .1 ∙ rw (first-more (suc h) m j, kid, tall C P w (suc h) m up (a .passed)) (simp append-assoc))
 
   -- the law: the nodes that go are the first in postorder
   pub went-first : (root h n k : ℕ) (up : List Position) → Passed C P w h n up → Above C P w root h n up → k ≤ count C w n
@@ -170,6 +146,5 @@ module _ (C : Shape) (P : ℕ) (w : List ℕ) where
   unfolding wentOf
   went-first root h n k up p a l =
       let b = first-of h n k l in
-      let G = wentOf C w (trimsUp up ((n, k) ∷ [])) in
-      let e = up-to root h n ((n, k) ∷ []) up p a (b .0, b .1 ∙ ap (λ (x : List ℕ). x ++ b .0) (ap (λ (x : ℕ). firstNodes C w x n k) (sym (tall C P w h n up p)) ∙ sym (append-nil (firstNodes C w (height C w n) n k)))) in
-      ap (take (length G)) (e .1) ∙ take-front G (e .0)
+      let e = up-to root h n ((n, k) ∷ []) up p a (b .0, b .1 ∙ rw (tall C P w h n up p, append-nil (firstNodes C w h n k))) in
+      rw (e .1) (take-front (wentOf C w (trimsUp up ((n, k) ∷ []))) (e .0))

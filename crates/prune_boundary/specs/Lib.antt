@@ -1,4 +1,3 @@
 pub mod Behind
 pub mod Edge
-pub mod Spine
 pub mod Trims

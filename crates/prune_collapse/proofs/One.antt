@@ -1,9 +1,8 @@
 -- The copy at one branch, test by test.
 use Prim.Native.Nat.{ℕ, _-_, _<_, _≤_}
 use mathlib.Core.List.{List}
-use mathlib.Core.Bool.{true, false}
+use mathlib.Core.Bool.{Bool}
 use mathlib.Core.Path.{_≡_}
-use lib.Dec.{ltb, eqb}
 use borrow.Author.Tests.{lt-ltb, le-ltb, eq-eqb, ne-eqb}
 use Rattle.model.specs.Words.{Shape, pick, count, row, child}
 use Rattle.model.specs.Tree.{Open, nodeAt, sound}
@@ -23,11 +22,7 @@ module _ (C : Shape) (P : ℕ) (w : List ℕ) (n h k : ℕ) where
     unfolding copyAt
     far l = rw (eq-eqb (count C w n - k) 1 e, le-ltb kid P l)
 
-    module _ (l : kid < P) where
-      pub bad : sound C (h - 1) (nodeAt C w kid) (row C w n (count C w n - 1)) Open ≡ false → copyAt C P w n h k ≡ Bad (record { 0 = kid })
-      unfolding copyAt
-      bad s = rw (eq-eqb (count C w n - k) 1 e, lt-ltb kid P l, s)
-
-      pub good : sound C (h - 1) (nodeAt C w kid) (row C w n (count C w n - 1)) Open ≡ true → copyAt C P w n h k ≡ Child (record { 0 = kid })
-      unfolding copyAt
-      good s = rw (eq-eqb (count C w n - k) 1 e, lt-ltb kid P l, s)
+    -- child c, which row r leads to, by its test
+    pub tested : (c r : ℕ) (good : Bool) → c ≡ kid → r ≡ row C w n (count C w n - 1) → good ≡ sound C (h - 1) (nodeAt C w c) r Open → c < P → copyAt C P w n h k ≡ pick good (Child (record { 0 = c })) (Bad (record { 0 = c }))
+    unfolding copyAt
+    tested c r good x y s l = rw (s, x, y, eq-eqb (count C w n - k) 1 e, lt-ltb kid P (rw x at l))

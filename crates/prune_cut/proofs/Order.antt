@@ -1,15 +1,14 @@
 -- Freeing the nodes that went first is freeing them last: the writes between touch other nodes, and no header word.
-use Prim.Native.Nat.{ℕ, zero, suc, _+_, _*_, _-_, _<_, _≤_}
+use Prim.Native.Nat.{ℕ, zero, suc, _+_, _-_, _<_, _≤_}
 use mathlib.Core.List.{List, [], _∷_, _++_, reverse}
-use mathlib.Core.Path.{_≡_, refl, sym, ap, _∙_, subst}
+use mathlib.Core.Path.{_≡_, refl, sym, ap, _∙_}
 use mathlib.Core.Logic.{_≢_}
 use native.Mathlib.Omega.{arith}
-use lib.ListN.{set, length}
-use Rattle.model.specs.Words.{Shape, word, part, put, nodeSize, height, count, start, end, row, rowPlace, child, childPlace, freeMark, NONE, freed, freeAll, copyFrom, copied, emptied, Header}
+use lib.ListN.{set}
+use Rattle.model.specs.Words.{Shape, word, part, put, nodeSize, count, row, rowPlace, child, childPlace, freeMark, NONE, freed, freeAll, copyFrom, copied, emptied, Header}
 use Rattle.model.specs.Reading.{occ}
 use Rattle.model.specs.Prune.{moved, trimmed, trimAll, copyAll}
 use Rattle.model.proofs.Words.{put-word, put-comm, set-put}
-use Rattle.model.proofs.Frame.{Same}
 use Rattle.model.proofs.Writes.{freed-keeps, not-first, not-rest}
 use Rattle.prune_boundary.specs.Trims.{Trims, Outside, Untouched}
 use Rattle.prune_write.proofs.Turns.{trims-next}

@@ -1,13 +1,13 @@
 -- The nodes copied into the root are none of those that go.
-use Prim.Native.Nat.{ℕ, zero, suc, _+_, _-_, _<_, _≤_}
+use Prim.Native.Nat.{ℕ, zero, suc, _-_, _≤_}
 use mathlib.Core.List.{List, [], _∷_}
-use mathlib.Core.Bool.{Bool, true, false}
+use mathlib.Core.Bool.{true}
 use mathlib.Core.Path.{_≡_, refl, sym, ap, _∙_, subst}
 use native.Mathlib.Omega.{arith}
-use lib.Dec.{T, ltb, eqb}
-use borrow.Author.Tests.{ltb-true, ltb-false, eqb-true, eqb-false}
-use Rattle.model.specs.Words.{Shape, pick, part, height, count, start, end, row, child}
-use Rattle.model.specs.Tree.{Level, Open, level, endSound, sound, nodeAt}
+use lib.Dec.{ltb, eqb}
+use borrow.Author.Tests.{ltb-false, eqb-true, eqb-false}
+use Rattle.model.specs.Words.{Shape, count, start, end, row, child}
+use Rattle.model.specs.Tree.{Open, level, endSound, sound, nodeAt}
 use Rattle.model.specs.Reading.{occ}
 use Rattle.model.specs.Cut.{trims, kept}
 use Rattle.model.specs.Prune.{Copies, unsound, copies, before, copiesFrom}

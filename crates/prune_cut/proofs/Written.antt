@@ -1,23 +1,20 @@
 -- After what goes is freed, the rest can be written as before.
-use Prim.Native.Nat.{ℕ, zero, suc, _+_, _-_, _<_, _≤_}
+use Prim.Native.Nat.{ℕ, _+_, _≤_}
 use mathlib.Core.List.{List, [], _∷_, _++_, reverse}
-use mathlib.Core.Path.{_≡_, refl, sym, ap, _∙_}
+use mathlib.Core.Path.{_≡_}
 use native.Mathlib.Omega.{arith}
-use lib.ListN.{length}
-use Rattle.model.specs.Words.{Shape, freeCount, part, count, freeAll, copied, Header}
+use Rattle.model.specs.Words.{Shape, freeCount, freeAll, copied, Header}
 use Rattle.model.specs.Prune.{trimmed, trimAll, copyAll}
 use Rattle.model.proofs.Words.{header-at}
-use Rattle.model.proofs.Writes.{free-all-keeps, free-all-length, copied-length}
-use Rattle.prune_boundary.specs.Trims.{Trims, Untouched}
+use Rattle.model.proofs.Writes.{free-all-keeps, free-all-length, free-all-count, copied-length}
 use Rattle.prune_write.proofs.Turns.{trims-next}
-use Rattle.model.proofs.Writes.{free-all-count}
 use Rattle.law_prune.proofs.Trim.{trims-word}
 use Rattle.law_prune.proofs.Copy.{copies-word}
 use Rattle.node_chain.specs.Chain.{listed}
 use Rattle.model.specs.declared.id.NodeNo.{NodeNo}
 use Rattle.model.specs.declared.path.Path.{Path}
 use Rattle.prune_boundary.specs.Edge.{wentOf}
-use Rattle.prune_boundary.specs.Trims.{trimsOf}
+use Rattle.prune_boundary.specs.Trims.{trimsOf, Trims, Untouched}
 use Rattle.prune_cut.specs.Writable.{Writable}
 use Rattle.prune_cut.proofs.Order.{freed-first}
 
@@ -44,26 +41,17 @@ module _ (C : Shape) (P : ℕ) where
 
 -- what is known after each write
 module _ {C : Shape} {P : ℕ} {w : List ℕ} {root : ℕ} {edge : Path} {j : ℕ} {nodes : List NodeNo} {k : ℕ} (e : ℕ) (d : Writable C P w root edge j nodes k) where
-  abbrev T : List (ℕ × ℕ)
-  T = trimsOf edge
-
-  abbrev G : List ℕ
-  G = wentOf C w T
-
-  abbrev ns : List ℕ
-  ns = listed nodes 0 k
-
   pub after-free : Header (C .cap) P (freeAll C w (wentOf C w (trimsOf edge))) × Trims C P (freeAll C w (wentOf C w (trimsOf edge))) (trimsOf edge)
-  after-free = (freed-header C P w G (d .reset .ready .header), freed-trims C P w G T (d .stays) (d .trims))
+  after-free = (freed-header C P w _ (d .reset .ready .header), freed-trims C P w _ (trimsOf edge) (d .stays) (d .trims))
 
   pub after-trim : Header (C .cap) P (trimAll C (freeAll C w (wentOf C w (trimsOf edge))) e (trimsOf edge))
-  after-trim = trims-header C P (freeAll C w G) e T (after-free .0) (after-free .1)
+  after-trim = trims-header C P _ e (trimsOf edge) (after-free .0) (after-free .1)
 
   pub after-copy : Header (C .cap) P (copyAll C (trimAll C (freeAll C w (wentOf C w (trimsOf edge))) e (trimsOf edge)) root (listed nodes 0 k)) × (freeCount (copyAll C (trimAll C (freeAll C w (wentOf C w (trimsOf edge))) e (trimsOf edge)) root (listed nodes 0 k)) + k ≤ 65535)
   after-copy =
-      let v = freeAll C w G in
-      let t = trimAll C v e T in
-      (copies-header C P t root ns after-trim, omega (arith, d .room, copies-word C t root ns 4 (omega arith), trims-word C v e T 4 (omega arith), free-all-count C P w G (d .reset .ready .header)))
+      let v = freeAll C w (wentOf C w (trimsOf edge)) in
+      let t = trimAll C v e (trimsOf edge) in
+      (copies-header C P t root (listed nodes 0 k) after-trim, omega (arith, d .room, copies-word C t root (listed nodes 0 k) 4 (omega arith), trims-word C v e (trimsOf edge) 4 (omega arith), free-all-count C P w (wentOf C w (trimsOf edge)) (d .reset .ready .header)))
 
   pub in-order : freeAll C (copyAll C (trimAll C (freeAll C w (wentOf C w (trimsOf edge))) e (trimsOf edge)) root (listed nodes 0 k)) (reverse (listed nodes 0 k)) ≡ freeAll C (copyAll C (trimAll C w e (trimsOf edge)) root (listed nodes 0 k)) (wentOf C w (trimsOf edge) ++ reverse (listed nodes 0 k))
-  in-order = freed-first C P w root e T ns G (d .reset .ready .header) (d .trims) (d .reset .root-stays) (d .copies-stay) (d .stays)
+  in-order = freed-first C P w root e (trimsOf edge) (listed nodes 0 k) (wentOf C w (trimsOf edge)) (d .reset .ready .header) (d .trims) (d .reset .root-stays) (d .copies-stay) (d .stays)

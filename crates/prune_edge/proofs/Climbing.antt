@@ -1,7 +1,7 @@
 -- The climb, a node at a time.
-use Prim.Native.Nat.{ℕ, _+_, _-_, _<_, _≤_}
+use Prim.Native.Nat.{ℕ, _+_, _<_, _≤_}
 use mathlib.Core.List.{List}
-use mathlib.Core.Path.{_≡_, refl, sym, ap, _∙_}
+use mathlib.Core.Path.{_≡_, refl, ap, _∙_}
 use native.Mathlib.Omega.{arith}
 use lib.ListN.{length}
 use Rattle.model.specs.Words.{Shape, count, Header}
@@ -29,7 +29,7 @@ module _ {C : Shape} {P : ℕ} {w : List ℕ} where
   -- k is the count of the scan
   pub start-climbing : (e n : ℕ) (p : Path) (u k : ℕ) → Ended C P w e n p u k → p .depth ≤ 32 → Climbing C P w (marked p u) k (marked p u) k
   start-climbing e n p u k d l =
-      record { end = e; root = n; climbed = start-climb C P w e n p u k d; keeps = λ x y c. c; steps = refl; more = refl; low = l; small = omega (arith, d .counted, few-most (length (lefts (d .seen)))) }
+      record { end = e; root = n; climbed = start-climb d; keeps = λ x y c. c; steps = refl; more = refl; low = l; small = omega (arith, d .counted, few-most (length (lefts (d .seen)))) }
 
   module _ {p : Path} {k : ℕ} {q : Path} {j : ℕ} (c : Climbing C P w p k q j) where
     pub step : 1 < q .depth → count C w (lastOf q .node .0) ≤ lastOf q .index → Climbing C P w p k (popped q) (j + 1)
@@ -37,10 +37,10 @@ module _ {C : Shape} {P : ℕ} {w : List ℕ} where
         record {
           end = c .end;
           root = c .root;
-          climbed = climb C P w (c .end) (c .root) q (c .climbed) l m;
-          keeps = λ e n x. climb C P w e n q (c .keeps e n x) l m;
+          climbed = climb (c .climbed) l m;
+          keeps = λ e n x. climb (c .keeps e n x) l m;
           steps = omega (arith, c .steps);
-          more = omega (arith, c .more, one-more C P w (c .end) (c .root) q (c .climbed) l m);
+          more = omega (arith, c .more, one-more (c .climbed) l m);
           low = c .low;
           small = c .small;
         }
@@ -49,8 +49,8 @@ module _ {C : Shape} {P : ℕ} {w : List ℕ} where
 pub topped : {C : Shape} {P : ℕ} {w : List ℕ} (e n : ℕ) (p : Path) (u k : ℕ) (q : Path) (j : ℕ) → Header (C .cap) P w → Climbing C P w (marked p u) k q j
     → (count C w (lastOf q .node .0) ≤ lastOf q .index → q .depth ≡ 1) → Ended C P w e n p u k → Topped C P w e n q j
 topped {C} {P} {w} e n p u k q j hd c whole d =
-    let s = start-climb C P w e n p u k d in
-    let few-went = edge-few C P w e n (marked p u) s in
-    let are : lefts (d .seen) ≡ wentOf C w (trimsOn (marked p u)) = went-marked C P w e n p u k d in
+    let s = start-climb d in
+    let few-went = edge-few s in
+    let are : lefts (d .seen) ≡ wentOf C w (trimsOn (marked p u)) = went-marked d in
     let exact : k ≡ length (wentOf C w (trimsOn (marked p u))) = d .counted ∙ ap (λ (ns : List ℕ). few (length ns)) are ∙ few-is (length (wentOf C w (trimsOn (marked p u)))) (omega (arith, few-went, hd .pool-high)) in
     record { climbed = c .keeps e n s; whole = whole; counted = omega (arith, exact, c .steps, c .more) }

@@ -37,7 +37,8 @@ use Rattle.prune_list.specs.Named.{endingOf}
 use Rattle.prune_leaf.specs.Progress.{stoppedBy, EndsAt}
 use Rattle.prune_leaf.specs.declared.Named.{Named}
 use Rattle.prune_leaf.specs.declared.Named.the-variants.{Entries, Refused}
-use Rattle.prune_boundary.proofs.Behind.{sound-level, start-behind, at-last, no-more, path-out, path-in}
+use Rattle.tree_turn.proofs.Tests.{no-more}
+use Rattle.prune_boundary.proofs.Behind.{sound-level, start-behind, at-last, path-out, path-in}
 use Rattle.prune_boundary.proofs.Went.{went-rooted, went-entered, went-popped}
 use Rattle.prune_leaf.proofs.Scans.{one-left, none-left, ends-long, scan-stopped, scan-used, noded}
 

@@ -1,9 +1,9 @@
 -- What a turn tells of its position.
 use Prim.Native.Nat.{ℕ, _-_, _<_, _≤_}
 use mathlib.Core.List.{List}
-use mathlib.Core.Bool.{Bool, true, false, false≢true}
+use mathlib.Core.Bool.{Bool, true, false}
 use mathlib.Core.Path.{_≡_, sym, ap, _∙_}
-use mathlib.Core.Logic.{_⊎_, inl, inr}
+use mathlib.Core.Logic.{_⊎_, inl, inr, ⊎-elim}
 use native.Mathlib.Omega.{arith}
 use lib.Dec.{ltb}
 use borrow.Author.Tests.{ltb-true, ltb-false}
@@ -19,7 +19,7 @@ use Rattle.tree_turn.specs.Left.{ValidPath, Moves}
 use Rattle.tree_turn.specs.declared.turn.Step.the-variants.{Up, Down}
 use Rattle.tree_turn.specs.Turn.{hasChild, outOf, up, down, bad, entering, turning, stepping}
 use Rattle.tree_turn.proofs.Moves.{leaf-move, end-move}
-use Rattle.tree_turn.proofs.Tests.{branch}
+use Rattle.tree_turn.proofs.Tests.{branch, no-more}
 
 -- two constructors are never equal
 other : {A : Type 0} → _≡_ {A = ℕ} 0 1 → A
@@ -43,39 +43,26 @@ module _ (C : Shape) (P : ℕ) (w : List ℕ) (n i : ℕ) (b : Limit) where
     pub has : hasChild C w n i ≡ true
     pub way : ((P ≤ child C w n i) × (n ≡ c)) ⊎ ((child C w n i < P) × (child C w n i ≡ c) × (passes false C (height C w n - 1) (nodeAt C w (child C w n i)) (row C w n i) (nextRow C w n i b) ≡ false))
 
-  pub left-it : up ≡ turning C P w n i b → hasChild C w n i ≡ false
+  -- by the way of the turn
+  by-turn : {A : Type 0} → (hasChild C w n i ≡ false → turning C P w n i b ≡ up → A) → (hasChild C w n i ≡ true → P ≤ child C w n i → turning C P w n i b ≡ bad n → A)
+      → (hasChild C w n i ≡ true → child C w n i < P → test ≡ false → turning C P w n i b ≡ bad (child C w n i) → A)
+      → (hasChild C w n i ≡ true → child C w n i < P → test ≡ true → turning C P w n i b ≡ down (child C w n i) (nextRow C w n i b) (outOf C P w (height C w n - 1) (child C w n i)) → A) → A
   unfolding turning entering
-  left-it e =
+  by-turn none far wrong good =
       by-test (hasChild C w n i)
       (λ h. by-test (ltb (child C w n i) P)
-      (λ r. by-test test
-      (λ t. let q : up ≡ down (child C w n i) (nextRow C w n i b) (outOf C P w (height C w n - 1) (child C w n i)) = rw (h, r, t) at e in other (cc))
-      (λ t. let q : up ≡ bad (child C w n i) = rw (h, r, t) at e in other (cc)))
-      (λ r. let q : up ≡ bad n = rw (h, r) at e in other (cc)))
-      (λ h. h)
+      (λ r. by-test test (λ t. good h (ltb-true (child C w n i) P r) t (rw (h, r, t))) (λ t. wrong h (ltb-true (child C w n i) P r) t (rw (h, r, t))))
+      (λ r. far h (ltb-false (child C w n i) P r) (rw (h, r))))
+      (λ h. none h (rw h))
+
+  pub left-it : up ≡ turning C P w n i b → hasChild C w n i ≡ false
+  left-it e = by-turn (λ h q. h) (λ h r q. other (cc)) (λ h r t q. other (cc)) (λ h r t q. other (cc))
 
   pub went : (c : ℕ) (next : Limit) (first : ℕ) → down c next first ≡ turning C P w n i b → Went c next first
-  unfolding turning entering
-  went c next first e =
-      by-test (hasChild C w n i)
-      (λ h. by-test (ltb (child C w n i) P)
-      (λ r. by-test test
-      (λ t. let q : down c next first ≡ down (child C w n i) (nextRow C w n i b) (outOf C P w (height C w n - 1) (child C w n i)) = rw (h, r, t) at e in
-      record { has = h; range = ltb-true (child C w n i) P r; number = cc; beyond = cc; out = cc; good = t })
-      (λ t. let q : down c next first ≡ bad (child C w n i) = rw (h, r, t) at e in other (cc)))
-      (λ r. let q : down c next first ≡ bad n = rw (h, r) at e in other (cc)))
-      (λ h. let q : down c next first ≡ up = rw h at e in other (cc))
+  went c next first e = by-turn (λ h q. other (cc)) (λ h r q. other (cc)) (λ h r t q. other (cc)) (λ h r t q. record { has = h; range = r; number = cc; beyond = cc; out = cc; good = t })
 
   pub barred : (c : ℕ) → bad c ≡ turning C P w n i b → Barred c
-  unfolding turning entering
-  barred c e =
-      by-test (hasChild C w n i)
-      (λ h. by-test (ltb (child C w n i) P)
-      (λ r. by-test test
-      (λ t. let q : bad c ≡ down (child C w n i) (nextRow C w n i b) (outOf C P w (height C w n - 1) (child C w n i)) = rw (h, r, t) at e in other (cc))
-      (λ t. let q : bad c ≡ bad (child C w n i) = rw (h, r, t) at e in record { has = h; way = inr (ltb-true (child C w n i) P r, cc, t) }))
-      (λ r. let q : bad c ≡ bad n = rw (h, r) at e in record { has = h; way = inl (ltb-false (child C w n i) P r, cc) }))
-      (λ h. let q : bad c ≡ up = rw h at e in other (cc))
+  barred c e = by-turn (λ h q. other (cc)) (λ h r q. record { has = h; way = inl (r, cc) }) (λ h r t q. record { has = h; way = inr (r, cc, t) }) (λ h r t q. other (cc))
 
 -- the turn that tests nothing
 module _ (C : Shape) (w : List ℕ) (n i : ℕ) where
@@ -107,10 +94,4 @@ module _ (C : Shape) (w v : List ℕ) (n i : ℕ) (s : Same C w v n) (l : count 
 -- a node with no more children is left
 pub move-out : (ends : Bool) (C : Shape) (P : ℕ) (w : List ℕ) (p : Path) (v : ValidPath C P w p) (z : 0 < p .depth) (q : Path)
     → hasChild C w (lastOf p .node .0) (lastOf p .index) ≡ false → trail q ≡ above p → Moves ends C P w p (Leave (lastOf p .node .0)) q
-unfolding hasChild
-move-out ends C P w p v z q e t =
-    by-test (ltb 0 (height C w (lastOf p .node .0)))
-    (λ u. by-test (ltb (lastOf p .index) (count C w (lastOf p .node .0)))
-    (λ x. absurd (false≢true (sym e ∙ rw (u, x))))
-    (λ x. end-move ends C P w p v z q (ltb-false (lastOf p .index) (count C w (lastOf p .node .0)) x) t))
-    (λ u. leaf-move ends C P w p v z q (omega (arith, ltb-false 0 (height C w (lastOf p .node .0)) u)) t)
+move-out ends C P w p v z q e t = ⊎-elim (λ u. leaf-move ends C P w p v z q u t) (λ u. end-move ends C P w p v z q u t) (no-more C w (lastOf p .node .0) (lastOf p .index) e)

@@ -4,7 +4,7 @@ use mathlib.Core.Bool.{Bool}
 use mathlib.Core.List.{List, [], _∷_}
 use mathlib.Core.Path.{_≡_, refl, ap, _∙_}
 use native.Mathlib.Omega.{arith}
-use lib.ListN.{getD, set, length, length-set, replicate}
+use lib.ListN.{getD, set, length, length-set}
 use lib.Seq.{getD-set-same, getD-set-other}
 use Rattle.model.specs.Paths.{noPosition, stack, trail, lastOf, above, turned, entered, rooted}
 use Rattle.model.specs.declared.path.Position.{Position}

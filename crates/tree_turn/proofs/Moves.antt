@@ -1,17 +1,17 @@
 -- The moves of the walk: p is the path before a move, q the one after it.
-use Prim.Native.Nat.{ℕ, zero, suc, _+_, _-_, _<_, _≤_}
-use mathlib.Core.List.{List, [], _∷_, _++_}
+use Prim.Native.Nat.{ℕ, suc, _<_, _≤_}
+use mathlib.Core.List.{List, _∷_, _++_}
 use mathlib.Core.Bool.{Bool, true, false}
-use mathlib.Core.Path.{_≡_, refl, sym, ap, _∙_, subst}
+use mathlib.Core.Path.{_≡_, sym, ap, _∙_, subst}
 use native.Mathlib.Omega.{arith}
-use Rattle.model.specs.Words.{Shape, part, height, count, row, child}
-use Rattle.model.specs.Tree.{Limit, nodeAt, level}
+use Rattle.model.specs.Words.{Shape, height, count, row, child}
+use Rattle.model.specs.Tree.{nodeAt, level}
 use Rattle.model.specs.Reading.{Visit, Enter, Leave, Bad, passes, visits}
 use Rattle.model.specs.Paths.{trail, lastOf, above, turned, entered}
 use Rattle.model.specs.declared.path.Position.{Position}
 use Rattle.model.specs.declared.path.Path.{Path}
-use Rattle.tree_turn.specs.Left.{bound, rest, Valid, left, ValidPath, Moves}
-use Rattle.tree_turn.proofs.Valid.{Top, valid-top, valid-path}
+use Rattle.tree_turn.specs.Left.{bound, rest, Valid, ValidPath, Moves}
+use Rattle.tree_turn.proofs.Valid.{valid-top, valid-path}
 use Rattle.tree_turn.proofs.Rest.{rest-leaf, rest-end, rest-child, child-far, child-bad, child-good, left-is, left-top, valid-entered}
 
 module _ (ends : Bool) (C : Shape) (P : ℕ) (w : List ℕ) (p : Path) (v : ValidPath C P w p) (z : 0 < p .depth) (q : Path) where

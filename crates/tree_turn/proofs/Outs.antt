@@ -1,13 +1,13 @@
 -- The first child number out of range: those before it are in range, and it is not.
-use Prim.Native.Nat.{ℕ, zero, suc, _+_, _-_, _<_, _≤_}
+use Prim.Native.Nat.{ℕ, zero, suc, _+_, _<_, _≤_}
 use mathlib.Core.List.{List}
-use mathlib.Core.Path.{_≡_, refl, sym, ap, _∙_, subst}
+use mathlib.Core.Path.{_≡_, sym, _∙_, subst}
 use mathlib.Core.Logic.{⊎-elim}
 use native.Mathlib.Omega.{arith}
 use native.Mathlib.Nat.{eq-or-lt-of-le}
-use lib.Dec.{ltb, eqb}
+use lib.Dec.{ltb}
 use borrow.Author.Tests.{ltb-true, ltb-false, ne-eqb}
-use Rattle.model.specs.Words.{Shape, pick, part, height, count, child}
+use Rattle.model.specs.Words.{Shape, count, child}
 use Rattle.model.proofs.Tests.{by-test}
 use Rattle.node_test.specs.Test.{firstOut}
 use Rattle.tree_turn.specs.Turn.{outOf}

@@ -1,21 +1,21 @@
 -- The tests of a turn in the terms of the code.
-use Prim.Native.Nat.{ℕ, _+_, _-_, _<_, _≤_}
+use Prim.Native.Nat.{ℕ, _-_, _<_, _≤_}
 use mathlib.Core.List.{List}
 use mathlib.Core.Bool.{true, false, and-true, false≢true}
 use mathlib.Core.Path.{_≡_, sym, _∙_}
+use mathlib.Core.Logic.{_⊎_, inl, inr}
 use native.Mathlib.Omega.{arith}
 use lib.Dec.{ltb}
 use borrow.Author.Tests.{lt-ltb, le-ltb, ltb-true, ltb-false}
 use Rattle.model.specs.Words.{Shape, pick, height, count, row, child}
-use Rattle.model.specs.Tree.{Limit, Below, nodeAt, sound}
+use Rattle.model.specs.Tree.{Limit, nodeAt, sound}
 use Rattle.model.specs.Reading.{passes, nextRow}
 use Rattle.model.proofs.Tests.{by-test}
 use Rattle.node_test.specs.Test.{nodeTest}
 use Rattle.node_test.specs.declared.NodeTest.{NodeTest}
 use Rattle.node_test.specs.declared.NodeTest.the-variants.{Unsound, Sound}
 use Rattle.model.specs.declared.path.Position.{Position}
-use Rattle.tree_turn.specs.declared.turn.Step.the-variants.{Up, Down}
-use Rattle.tree_turn.specs.Turn.{hasChild, outOf, Placed, up, down, bad, entering, turning, stepping}
+use Rattle.tree_turn.specs.Turn.{hasChild, outOf, Placed, up, down, bad, entering, turning}
 use Rattle.tree_turn.proofs.Outs.{in-range, out-range}
 
 module _ (C : Shape) (P : ℕ) (w : List ℕ) (n h r : ℕ) (b : Limit) where
@@ -24,38 +24,18 @@ module _ (C : Shape) (P : ℕ) (w : List ℕ) (n h r : ℕ) (b : Limit) where
   unfolding passes nodeTest outOf
   test-passes = rw (and-true (sound C h (nodeAt C w n) r b))
 
-module _ (C : Shape) (w : List ℕ) (n i : ℕ) where
-  pub no-child : height C w n ≡ 0 → hasChild C w n i ≡ false
-  unfolding hasChild
-  no-child z = rw z
-
-  pub has-some : (height C w n ≡ 0 → ⊥) → hasChild C w n i ≡ ltb i (count C w n)
-  unfolding hasChild
-  has-some z = rw (lt-ltb 0 (height C w n) (omega arith))
-
-  pub next-here : (b : Limit) → i + 1 < count C w n → nextRow C w n i b ≡ Below (row C w n (i + 1))
-  unfolding nextRow
-  next-here b l = rw (lt-ltb (i + 1) (count C w n) l)
-
-  pub next-beyond : (b : Limit) → count C w n ≤ i + 1 → nextRow C w n i b ≡ b
-  unfolding nextRow
-  next-beyond b l = rw (le-ltb (i + 1) (count C w n) l)
-
 -- what the test of a node says of it
 module _ (C : Shape) (P : ℕ) (w : List ℕ) (n h r : ℕ) (b : Limit) where
-  told : (x : NodeTest) → nodeTest C P w n h r b ≡ x → pick (passes false C h (nodeAt C w n) r b) (Sound (outOf C P w h n)) Unsound ≡ x
-  told x e = sym (test-passes C P w n h r b) ∙ e
-
   pub pass-sound : (first : ℕ) → nodeTest C P w n h r b ≡ Sound first → (passes false C h (nodeAt C w n) r b ≡ true) × (first ≡ outOf C P w h n)
   pass-sound first e =
       by-test (passes false C h (nodeAt C w n) r b)
-      (λ t. let q : Sound (outOf C P w h n) ≡ Sound first = rw t at (told (Sound first) e) in (t, cc))
-      (λ t. let q : Unsound ≡ Sound first = rw t at (told (Sound first) e) in let z : _≡_ {A = ℕ} 0 1 = cc in absurd (omega arith))
+      (λ t. let q : Sound (outOf C P w h n) ≡ Sound first = rw (test-passes C P w n h r b, t) at e in (t, cc))
+      (λ t. let q : Unsound ≡ Sound first = rw (test-passes C P w n h r b, t) at e in let z : _≡_ {A = ℕ} 0 1 = cc in absurd (omega arith))
 
   pub pass-unsound : nodeTest C P w n h r b ≡ Unsound → passes false C h (nodeAt C w n) r b ≡ false
   pass-unsound e =
       by-test (passes false C h (nodeAt C w n) r b)
-      (λ t. let q : Sound (outOf C P w h n) ≡ Unsound = rw t at (told Unsound e) in let z : _≡_ {A = ℕ} 0 1 = cc in absurd (omega arith))
+      (λ t. let q : Sound (outOf C P w h n) ≡ Unsound = rw (test-passes C P w n h r b, t) at e in let z : _≡_ {A = ℕ} 0 1 = cc in absurd (omega arith))
       (λ t. t)
 
 -- what the test of child i of branch n says
@@ -81,37 +61,35 @@ branch C w n i e =
     (λ v. absurd (false≢true (rw (u, v) at e))))
     (λ u. absurd (false≢true (rw u at e)))
 
+-- a node that has no more children is a leaf, or all its entries are done
+pub no-more : (C : Shape) (w : List ℕ) (n i : ℕ) → hasChild C w n i ≡ false → (height C w n ≡ 0) ⊎ (count C w n ≤ i)
+unfolding hasChild
+no-more C w n i e =
+    by-test (ltb 0 (height C w n))
+    (λ u. by-test (ltb i (count C w n)) (λ v. absurd (false≢true (sym e ∙ rw (u, v)))) (λ v. inr (ltb-false i (count C w n) v)))
+    (λ u. inl (omega (arith, ltb-false 0 (height C w n) u)))
+
 -- the turn at a position, by the tests of the code
-module _ (C : Shape) (P : ℕ) (w : List ℕ) (at : Position) (b : Limit) where
-  pub turns-up : hasChild C w (at .node .0) (at .index) ≡ false → turning C P w (at .node .0) (at .index) b ≡ up
+pub turns-up : (C : Shape) (P : ℕ) (w : List ℕ) (at : Position) (b : Limit) → hasChild C w (at .node .0) (at .index) ≡ false → turning C P w (at .node .0) (at .index) b ≡ up
+unfolding turning
+turns-up C P w at b e = rw e
+
+module _ {C : Shape} {P : ℕ} {w : List ℕ} {at : Position} {first : ℕ} (p : Placed C P w at first) (e : hasChild C w (at .node .0) (at .index) ≡ true) where
+  far : first ≤ at .index → P ≤ child C w (at .node .0) (at .index)
+  far h =
+      let t = branch C w (at .node .0) (at .index) e in
+      out-range C P w (at .node .0) (height C w (at .node .0)) (t .0) (at .index) (omega (arith, p .first-is, p .ahead)) (t .1)
+
+  pub turns-far : (b : Limit) → first ≤ at .index → turning C P w (at .node .0) (at .index) b ≡ bad (at .node .0)
   unfolding turning
-  turns-up e = rw e
+  turns-far b h = rw (e, le-ltb (child C w (at .node .0) (at .index)) P (far h))
 
-  module _ (first : ℕ) (p : Placed C P w at first) (e : hasChild C w (at .node .0) (at .index) ≡ true) where
-    far : first ≤ at .index → P ≤ child C w (at .node .0) (at .index)
-    far h =
-        let t = branch C w (at .node .0) (at .index) e in
-        out-range C P w (at .node .0) (height C w (at .node .0)) (t .0) (at .index) (omega (arith, p .first-is, p .ahead)) (t .1)
+  pub before : child C w (at .node .0) (at .index) < P → at .index < first
+  before l = by-test (ltb (at .index) first) (ltb-true (at .index) first) (λ t. absurd (omega (arith, far (ltb-false (at .index) first t))))
 
-    pub turns-far : first ≤ at .index → turning C P w (at .node .0) (at .index) b ≡ bad (at .node .0)
-    unfolding turning
-    turns-far h = rw (e, le-ltb (child C w (at .node .0) (at .index)) P (far h))
+  pub ranged : at .index < first → child C w (at .node .0) (at .index) < P
+  ranged h = in-range C P w (at .node .0) (height C w (at .node .0)) (branch C w (at .node .0) (at .index) e .0) (at .index) (omega (arith, p .first-is))
 
-    pub before : child C w (at .node .0) (at .index) < P → at .index < first
-    before l = by-test (ltb (at .index) first) (λ t. ltb-true (at .index) first t) (λ t. absurd (omega (arith, far (ltb-false (at .index) first t))))
-
-    pub ranged : at .index < first → child C w (at .node .0) (at .index) < P
-    ranged h = in-range C P w (at .node .0) (height C w (at .node .0)) (branch C w (at .node .0) (at .index) e .0) (at .index) (omega (arith, p .first-is))
-
-    pub turns-in : at .index < first → turning C P w (at .node .0) (at .index) b ≡ entering C P w (at .node .0) (at .index) b
-    unfolding turning
-    turns-in h = rw (e, lt-ltb (child C w (at .node .0) (at .index)) P (ranged h))
-
-module _ (C : Shape) (w : List ℕ) (n i : ℕ) where
-  pub steps-up : hasChild C w n i ≡ false → stepping C w n i ≡ Up
-  unfolding stepping
-  steps-up e = rw e
-
-  pub steps-in : hasChild C w n i ≡ true → stepping C w n i ≡ Down (record { 0 = child C w n i })
-  unfolding stepping
-  steps-in e = rw e
+  pub turns-in : (b : Limit) → at .index < first → turning C P w (at .node .0) (at .index) b ≡ entering C P w (at .node .0) (at .index) b
+  unfolding turning
+  turns-in b h = rw (e, lt-ltb (child C w (at .node .0) (at .index)) P (ranged h))

@@ -1,14 +1,14 @@
 -- A reading goes on: one visit more was seen.
-use Prim.Native.Nat.{ℕ, suc, _+_, _-_, _<_, _≤_}
-use mathlib.Core.List.{List, [], _∷_, _++_, append-nil, append-assoc}
-use mathlib.Core.Bool.{true, false, _&&_}
-use mathlib.Core.Path.{_≡_, refl, sym, ap, _∙_, subst}
+use Prim.Native.Nat.{ℕ, _+_, _<_}
+use mathlib.Core.List.{List, [], _∷_, _++_, append-assoc}
+use mathlib.Core.Bool.{false}
+use mathlib.Core.Path.{_≡_, sym, ap, _∙_, subst}
 use native.Mathlib.Omega.{arith}
 use lib.ListN.{length}
 use lib.Dec.{T}
 use Rattle.model.specs.Words.{Shape, height}
-use Rattle.model.specs.Reading.{Visit, Enter, Leave, Bad, occ}
-use Rattle.model.specs.Paths.{stack, trail, lastOf, above, turned, entered, rooted}
+use Rattle.model.specs.Reading.{Visit, Enter, Leave, occ}
+use Rattle.model.specs.Paths.{stack, trail, lastOf, above, entered, rooted}
 use Rattle.model.specs.declared.path.Position.{Position}
 use Rattle.model.specs.declared.path.Path.{Path}
 use Rattle.model.proofs.Tests.{both}
@@ -18,7 +18,7 @@ use Rattle.model.proofs.Writes.{occ-cons}
 use Rattle.law_formed.specs.Visits.{clean, lefts, enters}
 use Rattle.law_formed.proofs.Clean.{clean-append}
 use Rattle.law_formed.proofs.Tally.{left-append, enters-append}
-use Rattle.tree_turn.specs.Left.{rest, left, Valid, Moves, onPath}
+use Rattle.tree_turn.specs.Left.{left, Valid, Moves, onPath}
 use Rattle.tree_turn.specs.Trace.{Walked}
 use Rattle.tree_turn.proofs.InPlace.{rooted-left, popped, enteredPath, entered-trail}
 
@@ -33,55 +33,26 @@ module _ {C : Shape} {P : ℕ} {w : List ℕ} {n : ℕ} where
     unfolding onPath
     on-top m = ap (λ (st : List Position). occ m (onPath st)) (stack-pop (p .positions) (p .depth) z) ∙ occ-cons m (lastOf p .node .0) (onPath (above p))
 
-    more : (v : Visit) (q : Path) → Moves false C P w p v q → rest false C P w (height C w n) (entered n ∷ []) ≡ (seen ++ (v ∷ [])) ++ left false C P w q
-    more v q m = W .one ∙ ap (λ (vs : List Visit). seen ++ vs) (m .one) ∙ sym (append-assoc seen (v ∷ []) (left false C P w q))
-
-    still-clean : (v : Visit) → T (clean (v ∷ [])) → T (clean (seen ++ (v ∷ [])))
-    still-clean v t = subst T (sym (clean-append seen (v ∷ []))) (both (clean seen) (clean (v ∷ [])) (W .all-clean) t)
+    -- one visit more: what it enters or leaves is on the path or no more
+    goes-on : (v : Visit) (q : Path) → Moves false C P w p v q → T (clean (v ∷ [])) → ((k : ℕ) → occ k (onPath (trail q)) + occ k (lefts (v ∷ [])) ≡ occ k (onPath (trail p)) + occ k (enters (v ∷ [])))
+        → Walked C P w n (seen ++ (v ∷ [])) q
+    goes-on v q m t f =
+        record {
+          one = W .one ∙ ap (λ (vs : List Visit). seen ++ vs) (m .one) ∙ sym (append-assoc seen (v ∷ []) (left false C P w q));
+          all-clean = subst T (sym (clean-append seen (v ∷ []))) (both (clean seen) (clean (v ∷ [])) (W .all-clean) t);
+          held = λ k. (let e = occ-append k (enters seen) (enters (v ∷ [])) in
+              let l = ap (occ k) (left-append seen (v ∷ [])) ∙ occ-append k (lefts seen) (lefts (v ∷ [])) in
+              omega (arith, W .held k, f k, e, l, ap (occ k) (enters-append seen (v ∷ [])), occ-cons k n (enters (seen ++ (v ∷ []))), occ-cons k n (enters seen)));
+        }
 
     -- the last node is left
     pub walked-out : Moves false C P w p (Leave (lastOf p .node .0)) (popped p) → Walked C P w n (seen ++ (Leave (lastOf p .node .0) ∷ [])) (popped p)
     unfolding clean lefts enters
-    walked-out m =
-        let x = lastOf p .node .0 in
-        record {
-          one = more (Leave x) (popped p) m;
-          all-clean = still-clean (Leave x) tt;
-          held = λ k. omega (
-            arith,
-            W .held k,
-            on-top k,
-            ap (λ (l : List ℕ). occ k (n ∷ l)) (enters-append seen (Leave x ∷ [])),
-            occ-cons k n (enters seen ++ []),
-            occ-cons k n (enters seen),
-            occ-append k (enters seen) [],
-            occ-nil k,
-            ap (occ k) (left-append seen (Leave x ∷ [])),
-            occ-append k (lefts seen) (x ∷ []),
-          );
-        }
+    walked-out m = goes-on (Leave (lastOf p .node .0)) (popped p) m tt (λ k. omega (arith, on-top k, occ-nil k))
 
     -- a child is entered
     pub walked-in : (c : ℕ) → length (p .positions) ≡ 32 → p .depth < 32 → Moves false C P w p (Enter c) (enteredPath p c) → Walked C P w n (seen ++ (Enter c ∷ [])) (enteredPath p c)
     unfolding clean lefts enters onPath
     walked-in c l d m =
         let x = lastOf p .node .0 in
-        record {
-          one = more (Enter c) (enteredPath p c) m;
-          all-clean = still-clean (Enter c) tt;
-          held = λ k. omega (
-            arith,
-            W .held k,
-            on-top k,
-            ap (λ (ns : List ℕ). occ k (n ∷ ns)) (enters-append seen (Enter c ∷ [])),
-            occ-cons k n (enters seen ++ (c ∷ [])),
-            occ-cons k n (enters seen),
-            occ-append k (enters seen) (c ∷ []),
-            ap (occ k) (left-append seen (Enter c ∷ [])),
-            occ-append k (lefts seen) [],
-            occ-nil k,
-            ap (λ (st : List Position). occ k (onPath st)) (entered-trail p z l c d),
-            occ-cons k c (x ∷ onPath (above p)),
-            occ-cons k x (onPath (above p)),
-          );
-        }
+        goes-on (Enter c) (enteredPath p c) m tt (λ k. omega (arith, on-top k, occ-nil k, ap (λ (st : List Position). occ k (onPath st)) (entered-trail p z l c d), occ-cons k c (x ∷ onPath (above p)), occ-cons k x (onPath (above p))))

@@ -206,7 +206,7 @@ module _ {C : Shape} {P : ℕ} {w : List ℕ} {p : Path} {nexts : List Limit} {f
           long-first = length-set firsts (p .depth) first ∙ H .long-first;
           beside = λ d l. ⊎-elim (λ (x : suc d ≡ suc (p .depth)). let y : p .depth ≡ d = omega arith in subst After y new)
               (λ (x : suc d < suc (p .depth)). ⊎-elim
-              (λ (y : d ≡ p .depth - 1). subst After (sym y) (kept (p .depth - 1) (omega arith) (turned (lastOf p)) (entered-turned p z (H .long) c (H .deep)) refl (omega (arith, before C P w (lastOf p) b₀ (getD firsts (p .depth - 1) 0) placed (W e .has) (W e .range)))))
+              (λ (y : d ≡ p .depth - 1). subst After (sym y) (kept (p .depth - 1) (omega arith) (turned (lastOf p)) (entered-turned p z (H .long) c (H .deep)) refl (omega (arith, before placed (W e .has) (W e .range)))))
               (λ (y : d < p .depth - 1). kept d (omega arith) (getD (p .positions) d noPosition) (entered-other p z (H .long) c d y) refl (H .beside d (omega arith) .ahead))
               (eq-or-lt-of-le (omega arith)))
               (eq-or-lt-of-le (omega arith));

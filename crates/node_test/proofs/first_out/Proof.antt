@@ -1,9 +1,8 @@
 use borrow.Author.Needs.{needs}
-use borrow.Author.Tests.{lt-ltb, le-ltb}
 use native.Mathlib.Omega.{arith}
 use native.Mathlib.Nat.{sub-zero}
-use Prim.Native.Nat.{_+_, _-_, _≤_}
-use mathlib.Core.Path.{_≡_, _∙_, ap, refl, sym}
+use Prim.Native.Nat.{_-_, _≤_}
+use mathlib.Core.Path.{_≡_, _∙_, sym}
 use Rattle.node_read.specs.Layout.{shapeOf}
 use Rattle.node_test.specs.Test.{firstOut}
 use Rattle.node_test.proofs.Rows.{out-on, out-here, out-end}

@@ -1,12 +1,12 @@
 use borrow.Author.Needs.{needs}
 use borrow.Author.Tests.{not-true, not-false}
 use native.Mathlib.Omega.{arith}
-use Prim.Native.Nat.{ℕ, _-_}
-use mathlib.Core.Path.{_≡_, _∙_, ap, sym, subst}
-use mathlib.Core.Bool.{true, false, false≢true}
+use Prim.Native.Nat.{ℕ}
+use mathlib.Core.Path.{_∙_, ap, sym}
+use mathlib.Core.Bool.{false≢true}
 use Rattle.node_read.specs.Layout.{shapeOf}
-use Rattle.model.specs.Words.{part, end, count, row}
-use Rattle.model.specs.Tree.{endSound, rising, pairsFrom}
+use Rattle.model.specs.Words.{count, row}
+use Rattle.model.specs.Tree.{rising, pairsFrom}
 use Rattle.model.specs.declared.node.RowPageIndexNodeHeader.{RowPageIndexNodeHeader}
 use Rattle.node_test.specs.Test.{limitOf}
 use Rattle.node_test.proofs.Rows.{Facts, unsound-if, sound-if}
@@ -42,12 +42,8 @@ end-sound-requires c κs = search needs
 
 returns-6 : tie.Need-returns-6
 returns-6 c =
-    let a = c .before .before .before .before .before .before .before .before .before .before .before .before .before .before .before .before .before .args in
-    let ended : c .before .end-sound .result ≡ endSound (a .height) (limitOf (a .next)) (end (shapeOf (a .l)) (a .s .now) (a .n .0)) (row (shapeOf (a .l)) (a .s .now) (a .n .0) (count (shapeOf (a .l)) (a .s .now) (a .n .0) - 1)) =
-    c .before .end-sound .ensures
-    ∙ ap (λ (h : RowPageIndexNodeHeader). endSound (a .height) (limitOf (a .next)) (h .«end_row_id» .0) (c .before .before .row2 .result .0)) (c .before .before .before .before .before .before .before .before .before .before .before .before .before .before .before .header .ensures)
-    ∙ ap (endSound (a .height) (limitOf (a .next)) (end (shapeOf (a .l)) (a .s .now) (a .n .0))) (c .before .before .row2 .ensures ∙ ap (λ (h : RowPageIndexNodeHeader). row (shapeOf (a .l)) (a .s .now) (a .n .0) (h .count - 1)) (c .before .before .before .before .before .before .before .before .before .before .before .before .before .before .before .header .ensures)) in
-    sym (unsound-if (shapeOf (a .l)) (a .s .now) (a .n .0) (a .height) (a .row .0) (limitOf (a .next)) (λ f. false≢true (sym (not-true _ (c .if6 .taken)) ∙ ended ∙ f .ends)))
+    let ended = rw (c .before .before .row2 .ensures, c .before .before .before .before .before .before .before .before .before .before .before .before .before .before .before .header .ensures) at (c .before .end-sound .ensures) in
+    sym (unsound-if _ _ _ _ _ _ (λ f. false≢true (sym (not-true _ (c .if6 .taken)) ∙ ended ∙ f .ends)))
 
 rises-requires : tie.Need-rises-requires
 rises-requires c κs = search needs
@@ -56,10 +52,6 @@ returns-7 : tie.Need-returns-7
 returns-7 c =
     let a = c .before .before .before .before .before .before .before .before .before .before .before .before .before .before .before .before .before .before .args in
     let hdr = c .before .before .before .before .before .before .before .before .before .before .before .before .before .before .before .before .header .ensures in
-    let ended : c .before .before .end-sound .result ≡ endSound (a .height) (limitOf (a .next)) (end (shapeOf (a .l)) (a .s .now) (a .n .0)) (row (shapeOf (a .l)) (a .s .now) (a .n .0) (count (shapeOf (a .l)) (a .s .now) (a .n .0) - 1)) =
-    c .before .before .end-sound .ensures
-    ∙ ap (λ (h : RowPageIndexNodeHeader). endSound (a .height) (limitOf (a .next)) (h .«end_row_id» .0) (c .before .before .before .row2 .result .0)) (c .before .before .before .before .before .before .before .before .before .before .before .before .before .before .before .before .header .ensures)
-    ∙ ap (endSound (a .height) (limitOf (a .next)) (end (shapeOf (a .l)) (a .s .now) (a .n .0))) (c .before .before .before .row2 .ensures ∙ ap (λ (h : RowPageIndexNodeHeader). row (shapeOf (a .l)) (a .s .now) (a .n .0) (h .count - 1)) (c .before .before .before .before .before .before .before .before .before .before .before .before .before .before .before .before .header .ensures)) in
     let f : Facts (shapeOf (a .l)) (a .s .now) (a .n .0) (a .height) (a .row .0) (limitOf (a .next)) =
     record {
       high = sym (ap (λ (h : RowPageIndexNodeHeader). h .height) hdr) ∙ c .before .before .before .before .before .before .before .before .before .before .before .before .before .before .if1 .left;
@@ -67,7 +59,7 @@ returns-7 c =
       many = omega (arith, c .before .before .before .before .before .before .before .before .before .before .before .if3 .left, ap (λ (h : RowPageIndexNodeHeader). h .count) hdr);
       begin = sym (ap (λ (h : RowPageIndexNodeHeader). h .«start_row_id» .0) hdr) ∙ c .before .before .before .before .before .before .before .before .if4 .left;
       first = sym (c .before .before .before .before .before .before .before .row .ensures) ∙ c .before .before .before .before .if5 .left;
-      ends = sym ended ∙ not-false _ (c .before .if6 .left);
+      ends = sym (rw (c .before .before .before .row2 .ensures, hdr) at (c .before .before .end-sound .ensures)) ∙ not-false _ (c .before .if6 .left);
     } in
     c .rises .ensures ∙ ap (λ (h : RowPageIndexNodeHeader). rising (pairsFrom (shapeOf (a .l)) (a .s .now) (λ (x : ℕ). x) (a .n .0) 0 (h .count))) hdr ∙ sym (sound-if (shapeOf (a .l)) (a .s .now) (a .n .0) (a .height) (a .row .0) (limitOf (a .next)) f)
 

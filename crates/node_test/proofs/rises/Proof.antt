@@ -1,7 +1,6 @@
 use borrow.Author.Needs.{needs}
-use borrow.Author.Tests.{lt-ltb, le-ltb}
 use native.Mathlib.Omega.{arith}
-use Prim.Native.Nat.{ℕ, _+_, _-_, _<_, _≤_}
+use Prim.Native.Nat.{ℕ, _+_, _-_, _≤_}
 use mathlib.Core.Path.{_≡_, _∙_, ap, refl, sym}
 use Rattle.node_read.specs.Layout.{shapeOf}
 use Rattle.model.specs.Words.{row}
@@ -9,22 +8,6 @@ use Rattle.model.specs.Tree.{rising, pairsFrom}
 use Rattle.node_test.proofs.Rows.{rest, rise-all, rise-on, rise-stop, rise-end, rise-falls, rise-tail}
 use Rattle.node_test.proofs.rises.Statement.{statement}
 use Rattle.node_test.proofs.rises.Tie as tie
-
--- places among the last four
-three-on : (i : ℕ) → i + 3 ≡ i + 4 - 1
-three-on i = omega arith
-
-four : (k : ℕ) → 4 ≤ k → k - 4 + 1 ≡ k - 3
-four k h = omega arith
-
-three : (k : ℕ) → 4 ≤ k → k - 3 + 1 ≡ k - 2
-three k h = omega arith
-
-within3 : (k : ℕ) → 4 ≤ k → k - 3 < k
-within3 k h = omega arith
-
-within2 : (k : ℕ) → 4 ≤ k → k - 2 < k
-within2 k h = omega arith
 
 abbrev Inv-loop : tie.InvT-loop
 Inv-loop l s n count last₀ i₀ last i =
@@ -109,7 +92,7 @@ loop-again c =
           ∙ rise-on (shapeOf (a .l)) (a .s .now) (a .n .0) _ _ (c .before .before .before .before .before .before .before .before .before .loop .i + 3) _ (omega (arith, c .before .before .before .before .before .before .before .before .loop-test .taken)) (omega arith) (rw (c .before .before .before .row4 .ensures, c .before .before .before .before .before .row3 .ensures) at (c .before .before .if3 .left))
           ∙ rise-on (shapeOf (a .l)) (a .s .now) (a .n .0) _ _ (c .before .before .before .before .before .before .before .before .before .loop .i + 4) _ (omega (arith, c .before .before .before .before .before .before .before .before .loop-test .taken)) (omega arith) (rw (c .before .row5 .ensures, c .before .before .before .row4 .ensures) at (c .if4 .left))
           ∙ rw (c .before .row5 .ensures),
-      c .before .row5 .ensures ∙ ap (row (shapeOf (a .l)) (a .s .now) (a .n .0)) (three-on (c .before .before .before .before .before .before .before .before .before .loop .i)),
+      c .before .row5 .ensures ∙ (let z : c .before .before .before .before .before .before .before .before .before .loop .i + 3 ≡ c .before .before .before .before .before .before .before .before .before .loop .i + 4 - 1 = omega arith in ap (row (shapeOf (a .l)) (a .s .now) (a .n .0)) z),
     )
 
 row-requires-6 : tie.Need-row-requires-6 Inv-loop μ-loop Inv-loop2 μ-loop2
@@ -124,8 +107,7 @@ row-requires-7 c κs = search needs
 returns-5 : tie.Need-returns-5 Inv-loop μ-loop Inv-loop2 μ-loop2
 returns-5 c =
     let a = c .before .before .before .before .before .before .before .before .args in
-    let z = c .before .before .before .if5 .taken in
-    sym (rise-falls (shapeOf (a .l)) (a .s .now) (a .n .0) (a .count - 4) (a .count - 3) (a .count) (four (a .count) z) (within3 (a .count) z) (rw (c .before .row7 .ensures, c .before .before .row6 .ensures) at (c .if6 .taken)))
+    sym (rise-falls (shapeOf (a .l)) (a .s .now) (a .n .0) 2 (a .count) (c .before .before .before .if5 .taken) (rw (c .before .row7 .ensures, c .before .before .row6 .ensures) at (c .if6 .taken)))
 
 sub-row-2 : tie.Need-sub-row-2 Inv-loop μ-loop Inv-loop2 μ-loop2
 sub-row-2 c = search needs
@@ -136,8 +118,7 @@ row-requires-8 c κs = search needs
 returns-6 : tie.Need-returns-6 Inv-loop μ-loop Inv-loop2 μ-loop2
 returns-6 c =
     let a = c .before .before .before .before .before .before .before .before .before .before .args in
-    let z = c .before .before .before .before .before .if5 .taken in
-    sym (rise-falls (shapeOf (a .l)) (a .s .now) (a .n .0) (a .count - 3) (a .count - 2) (a .count) (three (a .count) z) (within2 (a .count) z) (rw (c .before .row8 .ensures, c .before .before .before .row7 .ensures) at (c .if7 .taken)))
+    sym (rise-falls (shapeOf (a .l)) (a .s .now) (a .n .0) 1 (a .count) (omega (arith, c .before .before .before .before .before .if5 .taken)) (rw (c .before .row8 .ensures, c .before .before .before .row7 .ensures) at (c .if7 .taken)))
 
 sub-row-3 : tie.Need-sub-row-3 Inv-loop μ-loop Inv-loop2 μ-loop2
 sub-row-3 c = search needs

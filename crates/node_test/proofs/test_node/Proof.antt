@@ -4,9 +4,9 @@ use Rattle.node_read.specs.Layout.{shapeOf}
 use Rattle.model.specs.declared.node.RowPageIndexNodeHeader.{RowPageIndexNodeHeader}
 use Rattle.node_test.proofs.Rows.{facts}
 use borrow.Author.Tests.{not-true, not-false, eq-eqb, ne-eqb}
-use mathlib.Core.Path.{_≡_, _∙_, ap, sym}
-use Rattle.node_test.specs.Test.{limitOf, nodeTest, firstOut}
-use Rattle.model.specs.Words.{part, count}
+use mathlib.Core.Path.{_∙_, ap, sym}
+use Rattle.node_test.specs.Test.{limitOf, nodeTest}
+use Rattle.model.specs.Words.{count}
 use Rattle.node_test.proofs.test_node.Statement.{statement}
 use Rattle.node_test.proofs.test_node.Tie as tie
 

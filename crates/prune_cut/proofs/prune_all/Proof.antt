@@ -1,5 +1,5 @@
 use borrow.Author.Needs.{needs}
-use mathlib.Core.Path.{_≡_, sym, ap, _∙_}
+use mathlib.Core.Path.{sym, ap, _∙_}
 use native.Mathlib.Omega.{arith}
 use Rattle.model.specs.Refusals.{Outcome}
 use Rattle.prune_cut.proofs.Edges.{resettable, all-full, all-done}
@@ -11,25 +11,20 @@ sub-if1 c = let R = c .before .before .before .before .pre .0 in omega (arith, R
 
 returns : tie.Need-returns
 returns c =
-    let a = c .before .before .before .before .before .args in
-    let p = c .before .before .before .before .before .pre in
-    let e = all-full (a .h) (a .s .now) (a .end .0) (a .b) (p .0) (p .1) (c .if1 .taken) (a .k) in
+    let x = c .before .before .before .before .before in
+    let e = all-full (x .pre .0) (x .pre .1) (c .if1 .taken) (x .args .k) in
     (sym (ap (λ (o : Outcome). o .answer) e), sym (ap (λ (o : Outcome). o .words) e))
 
 write-reset-requires : tie.Need-write-reset-requires
-write-reset-requires c κs =
-    let a = c .before .before .before .before .before .before .before .args in
-    let p = c .before .before .before .before .before .before .before .pre in
-    resettable (a .h) (a .s .now) (a .end .0) (a .b) (p .0) (p .1) (c .before .before .if1 .left)
+write-reset-requires c κs = let p = c .before .before .before .before .before .before .before .pre in resettable (p .0) (p .1) (c .before .before .if1 .left)
 
 same-length : tie.Need-same-length
 same-length c = search needs
 
 returns-2 : tie.Need-returns-2
 returns-2 c =
-    let a = c .before .before .before .before .before .before .before .before .before .before .args in
-    let p = c .before .before .before .before .before .before .before .before .before .before .pre in
-    let e = all-done (a .h) (a .s .now) (a .end .0) (a .b) (p .0) (p .1) (c .before .before .before .before .before .if1 .left) (a .k) in
+    let x = c .before .before .before .before .before .before .before .before .before .before in
+    let e = all-done (x .pre .0) (x .pre .1) (c .before .before .before .before .before .if1 .left) (x .args .k) in
     (sym (ap (λ (o : Outcome). o .answer) e), c .before .before .write-reset .ensures ∙ sym (ap (λ (o : Outcome). o .words) e))
 
 pub prune-all-spec : {M : Type 1} → statement M

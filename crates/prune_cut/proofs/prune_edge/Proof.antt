@@ -1,5 +1,5 @@
 use borrow.Author.Needs.{needs}
-use mathlib.Core.Path.{_≡_, sym, ap, _∙_}
+use mathlib.Core.Path.{sym, ap, _∙_}
 use native.Mathlib.Omega.{arith}
 use Rattle.model.specs.Refusals.{Outcome}
 use Rattle.model.specs.declared.node.RowPageIndexNodeHeader.{RowPageIndexNodeHeader}
@@ -8,32 +8,23 @@ use Rattle.prune_cut.proofs.prune_edge.Statement.{statement}
 use Rattle.prune_cut.proofs.prune_edge.Tie as tie
 
 sub-at : tie.Need-sub-at
-sub-at c =
-    let a = c .before .before .args in
-    let p = c .before .before .pre in
-    shaped (a .h) (a .s .now) (a .end .0) (a .b) (p .0) (p .1) .0
+sub-at c = let p = c .before .before .pre in shaped (p .0) (p .1) .0
 
 mul-last : tie.Need-mul-last
-mul-last c =
-    let a = c .before .before .args in
-    let p = c .before .before .pre in
-    omega (arith, shaped (a .h) (a .s .now) (a .end .0) (a .b) (p .0) (p .1) .1)
+mul-last c = let p = c .before .before .pre in omega (arith, shaped (p .0) (p .1) .1)
 
 element-copy-out-last : tie.Need-element-copy-out-last
 element-copy-out-last c =
-    let a = c .before .before .args in
     let p = c .before .before .pre in
-    let s = shaped (a .h) (a .s .now) (a .end .0) (a .b) (p .0) (p .1) in omega (arith, s .0, s .1, s .2)
+    let s = shaped (p .0) (p .1) in omega (arith, s .0, s .1, s .2)
 
 header-requires : tie.Need-header-requires
 header-requires c κs =
-    let a = c .before .before .before .before .before .args in
     let p = c .before .before .before .before .before .pre in
-    (p .0 .header, last-in (a .h) (a .s .now) (a .end .0) (a .b) (p .0) (p .1))
+    (p .0 .header, last-in (p .0) (p .1))
 
 prune-all-requires : tie.Need-prune-all-requires
 prune-all-requires c κs =
-    let a = c .before .before .before .before .before .before .before .before .before .args in
     let p = c .before .before .before .before .before .before .before .before .before .pre in
     (p .0, p .1, rw (ap (λ (h : RowPageIndexNodeHeader). h .count) (c .before .before .before .header .ensures)) at (c .before .if1 .taken))
 
@@ -42,14 +33,12 @@ same-length c = search needs
 
 returns : tie.Need-returns
 returns c =
-    let a = c .before .before .before .before .before .before .before .before .before .before .before .before .args in
-    let p = c .before .before .before .before .before .before .before .before .before .before .before .before .pre in
-    let e = whole-is (a .h) (a .s .now) (a .end .0) (a .b) (p .0) (p .1) (rw (ap (λ (h : RowPageIndexNodeHeader). h .count) (c .before .before .before .before .before .before .header .ensures)) at (c .before .before .before .before .if1 .taken)) (a .k) in
+    let x = c .before .before .before .before .before .before .before .before .before .before .before .before in
+    let e = whole-is (x .pre .0) (x .pre .1) (rw (ap (λ (h : RowPageIndexNodeHeader). h .count) (c .before .before .before .before .before .before .header .ensures)) at (c .before .before .before .before .if1 .taken)) (x .args .k) in
     (c .before .before .prune-all .ensures .0 ∙ sym (ap (λ (o : Outcome). o .answer) e), c .before .before .prune-all .ensures .1 ∙ sym (ap (λ (o : Outcome). o .words) e))
 
 prune-some-requires : tie.Need-prune-some-requires
 prune-some-requires c κs =
-    let a = c .before .before .before .before .before .before .before .before .before .args in
     let p = c .before .before .before .before .before .before .before .before .before .pre in
     (p .0, p .1, rw (ap (λ (h : RowPageIndexNodeHeader). h .count) (c .before .before .before .header .ensures)) at (c .before .if1 .left))
 
@@ -58,9 +47,8 @@ same-length-2 c = search needs
 
 returns-2 : tie.Need-returns-2
 returns-2 c =
-    let a = c .before .before .before .before .before .before .before .before .before .before .before .before .args in
-    let p = c .before .before .before .before .before .before .before .before .before .before .before .before .pre in
-    let e = stays-is (a .h) (a .s .now) (a .end .0) (a .b) (p .0) (p .1) (rw (ap (λ (h : RowPageIndexNodeHeader). h .count) (c .before .before .before .before .before .before .header .ensures)) at (c .before .before .before .before .if1 .left)) (a .k) in
+    let x = c .before .before .before .before .before .before .before .before .before .before .before .before in
+    let e = stays-is (x .pre .0) (x .pre .1) (rw (ap (λ (h : RowPageIndexNodeHeader). h .count) (c .before .before .before .before .before .before .header .ensures)) at (c .before .before .before .before .if1 .left)) (x .args .k) in
     (c .before .before .prune-some .ensures .0 ∙ sym (ap (λ (o : Outcome). o .answer) e), c .before .before .prune-some .ensures .1 ∙ sym (ap (λ (o : Outcome). o .words) e))
 
 pub prune-edge-spec : {M : Type 1} → statement M

@@ -12,22 +12,16 @@ use Rattle.prune_cut.proofs.write_reset.Statement.{statement}
 use Rattle.prune_cut.proofs.write_reset.Tie as tie
 
 free-first-requires : tie.Need-free-first-requires
-free-first-requires c κs =
-    c .before .before .pre .ready
+free-first-requires c κs = c .before .before .pre .ready
 
 empty-node-requires : tie.Need-empty-node-requires
 empty-node-requires c κs =
     let a = c .before .before .before .before .before .before .args in
     let d = c .before .before .before .before .before .before .pre in
-    let C = shapeOf (a .l) in
-    let w = a .s .now in
-    let G = wentOf C w (trimsOf (a .edge)) in
-    let e1 = c .before .before .before .free-first .ensures ∙ ap (freeAll C w) (d .first) in
-    rw e1 (freed-header C (a .l .pool) w G (d .ready .header), d .inside)
+    rw (c .before .before .before .free-first .ensures ∙ ap (freeAll (shapeOf (a .l)) (a .s .now)) (d .first)) (freed-header _ _ _ _ (d .ready .header), d .inside)
 
 same-length : tie.Need-same-length
-same-length c =
-    search needs
+same-length c = search needs
 
 returns : tie.Need-returns
 returns c =
@@ -35,15 +29,8 @@ returns c =
     let d = c .before .before .before .before .before .before .before .before .before .pre in
     let C = shapeOf (a .l) in
     let w = a .s .now in
-    let G = wentOf C w (trimsOf (a .edge)) in
     let e1 = c .before .before .before .before .before .before .free-first .ensures ∙ ap (freeAll C w) (d .first) in
-    c .before .before .empty-node .ensures ∙ ap (λ (x : List ℕ). emptied C x (a .root .0) (a .end .0)) e1 ∙ emptied-after C G w (a .root .0) (a .end .0) (d .root-stays)
+    c .before .before .empty-node .ensures ∙ ap (λ (x : List ℕ). emptied C x (a .root .0) (a .end .0)) e1 ∙ emptied-after C (wentOf C w (trimsOf (a .edge))) w (a .root .0) (a .end .0) (d .root-stays)
 
 pub write-reset-spec : {M : Type 1} → statement M
-write-reset-spec =
-    tie.close
-    (tie.spec
-    free-first-requires
-    empty-node-requires
-    same-length
-    returns)
+write-reset-spec = tie.close (tie.spec free-first-requires empty-node-requires same-length returns)

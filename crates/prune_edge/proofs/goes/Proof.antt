@@ -1,5 +1,4 @@
 use borrow.Author.Needs.{needs}
-use native.Mathlib.Omega.{arith}
 use borrow.Author.Tests.{lt-ltb, le-ltb}
 use Rattle.prune_boundary.specs.Edge.{goesAt}
 use Rattle.prune_edge.proofs.goes.Statement.{statement}

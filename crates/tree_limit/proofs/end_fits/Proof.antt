@@ -1,14 +1,16 @@
 use borrow.Author.Needs.{needs}
-use mathlib.Core.Path.{sym}
-use Rattle.tree_limit.proofs.Ends.{ends-leaf, ends-none, ends-open, ends-below}
+use borrow.Author.Tests.{eq-eqb, ne-eqb}
+use Rattle.model.specs.Reading.{endFits}
+use Rattle.tree_limit.proofs.Ends.{ends-branch}
 use Rattle.tree_limit.proofs.end_fits.Statement.{statement}
 use Rattle.tree_limit.proofs.end_fits.Tie as tie
 
 returns : tie.Need-returns
-returns c = sym (ends-leaf _ _ _ (c .if1 .taken))
+unfolding endFits
+returns c = rw (c .if1 .taken)
 
 returns-2 : tie.Need-returns-2
-returns-2 c = sym (ends-none _ _ _ (c .before .before .if1 .left) (c .if2 .taken))
+returns-2 c = simp (ends-branch, c .before .before .if1 .left, eq-eqb _ _ (c .if2 .taken))
 
 enum-told : tie.Need-enum-told
 enum-told c = search needs
@@ -17,10 +19,10 @@ enum-known-next : tie.Need-enum-known-next
 enum-known-next c = search needs
 
 returns-3 : tie.Need-returns-3
-returns-3 c = rw (c .enum-told .given .1) (sym (ends-open _ _ (c .before .before .before .before .if1 .left) (c .before .before .if2 .left)))
+returns-3 c = simp (c .enum-told .given .1, ends-branch, c .before .before .before .before .if1 .left, ne-eqb _ _ (c .before .before .if2 .left))
 
 returns-4 : tie.Need-returns-4
-returns-4 c = rw (c .before .before .before .next .given .1) (sym (ends-below _ _ _ (c .before .before .before .before .before .before .before .if1 .left) (c .before .before .before .before .before .if2 .left)))
+returns-4 c = simp (c .before .before .before .next .given .1, ends-branch, c .before .before .before .before .before .before .before .if1 .left, ne-eqb _ _ (c .before .before .before .before .before .if2 .left))
 
 pub end-fits-spec : {M : Type 1} → statement M
 end-fits-spec =

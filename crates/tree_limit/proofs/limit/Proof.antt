@@ -1,4 +1,3 @@
-use borrow.Author.Needs.{needs}
 use mathlib.Core.Path.{refl}
 use Rattle.tree_limit.specs.Limits.{limit}
 use Rattle.tree_limit.proofs.limit.Statement.{statement}

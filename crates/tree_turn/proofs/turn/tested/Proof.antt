@@ -10,42 +10,25 @@ use Rattle.tree_turn.proofs.turn.tested.Statement.{statement}
 use Rattle.tree_turn.proofs.turn.tested.Tie as tie
 
 returns : tie.Need-returns
-returns c =
-    let a = c .before .before .before .args in
-    let p = c .before .before .before .pre .1 in
-    sym (turns-far (shapeOf (a .l)) (a .l .pool) (a .s .now) (a .at) (limitOf (a .next)) (a .first) (p .0) (p .1) (c .if1 .taken))
+returns c = let p = c .before .before .before .pre .1 in sym (turns-far (p .0) (p .1) _ (c .if1 .taken))
 
 header-requires : tie.Need-header-requires
 header-requires c κs = search needs
 
 row-requires : tie.Need-row-requires
-row-requires c κs =
-    let a = c .before .before .before .before .args in
-    let p = c .before .before .before .before .pre .1 in
-    (c .before .before .before .before .pre .0, (p .0 .inside, omega (arith, p .0 .narrow, branch (shapeOf (a .l)) (a .s .now) (a .at .node .0) (a .at .index) (p .1) .1)))
+row-requires c κs = let p = c .before .before .before .before .pre in (p .0, (p .1 .0 .inside, omega (arith, p .1 .0 .narrow, branch _ _ _ _ (p .1 .1) .1)))
 
 child-requires : tie.Need-child-requires
-child-requires c κs =
-    let a = c .before .before .before .before .before .args in
-    let p = c .before .before .before .before .before .pre .1 in
-    (c .before .before .before .before .before .pre .0, (p .0 .inside, omega (arith, p .0 .narrow, branch (shapeOf (a .l)) (a .s .now) (a .at .node .0) (a .at .index) (p .1) .1)))
+child-requires c κs = let p = c .before .before .before .before .before .pre in (p .0, (p .1 .0 .inside, omega (arith, p .1 .0 .narrow, branch _ _ _ _ (p .1 .1) .1)))
 
 next-row-requires : tie.Need-next-row-requires
-next-row-requires c κs =
-    let a = c .before .before .before .before .before .before .args in
-    let p = c .before .before .before .before .before .before .pre .1 in
-    (c .before .before .before .before .before .before .pre .0, (p .0 .inside, branch (shapeOf (a .l)) (a .s .now) (a .at .node .0) (a .at .index) (p .1) .1, p .0 .narrow))
+next-row-requires c κs = let p = c .before .before .before .before .before .before .pre in (p .0, (p .1 .0 .inside, branch _ _ _ _ (p .1 .1) .1, p .1 .0 .narrow))
 
 sub-test-node : tie.Need-sub-test-node
-sub-test-node c =
-    let a = c .before .before .before .before .before .before .before .before .args in
-    omega (arith, ap (λ (h : RowPageIndexNodeHeader). h .height) (c .before .before .before .before .header .ensures), branch (shapeOf (a .l)) (a .s .now) (a .at .node .0) (a .at .index) (c .before .before .before .before .before .before .before .before .pre .1 .1) .0)
+sub-test-node c = omega (arith, ap (λ (h : RowPageIndexNodeHeader). h .height) (c .before .before .before .before .header .ensures), branch _ _ _ _ (c .before .before .before .before .before .before .before .before .pre .1 .1) .0)
 
 test-node-requires : tie.Need-test-node-requires
-test-node-requires c κs =
-    let a = c .before .before .before .before .before .before .before .before .args in
-    let p = c .before .before .before .before .before .before .before .before .pre .1 in
-    (c .before .before .before .before .before .before .before .before .pre .0, rw (c .before .before .child .ensures) (ranged (shapeOf (a .l)) (a .l .pool) (a .s .now) (a .at) (limitOf (a .next)) (a .first) (p .0) (p .1) (c .before .before .before .before .before .if1 .left)))
+test-node-requires c κs = let p = c .before .before .before .before .before .before .before .before .pre in (p .0, rw (c .before .before .child .ensures) (ranged (p .1 .0) (p .1 .1) (c .before .before .before .before .before .if1 .left)))
 
 enum-known-inner : tie.Need-enum-known-inner
 enum-known-inner c = search needs
@@ -57,7 +40,7 @@ returns-2 : tie.Need-returns-2
 returns-2 c =
     let a = c .before .before .before .before .before .before .before .before .before .before .before .before .args in
     let p = c .before .before .before .before .before .before .before .before .before .before .before .before .pre .1 in
-    let t = turns-in (shapeOf (a .l)) (a .l .pool) (a .s .now) (a .at) (limitOf (a .next)) (a .first) (p .0) (p .1) (c .before .before .before .before .before .before .before .before .before .if1 .left) in
+    let t = turns-in (p .0) (p .1) (limitOf (a .next)) (c .before .before .before .before .before .before .before .before .before .if1 .left) in
     let q : tested (shapeOf (a .l)) (a .l .pool) (a .s .now) (a .at .node .0) (a .at .index) (limitOf (a .next)) ≡ Sound _ = rw (c .before .before .before .before .before .before .child .ensures, c .before .before .before .before .before .before .before .before .header .ensures, c .before .before .before .before .before .before .before .row .ensures, c .before .before .before .before .before .next-row .ensures) at (sym (c .before .before .before .test-node .ensures) ∙ c .before .inner .given .1) in
     rw (c .before .before .before .before .before .before .child .ensures, c .before .before .before .before .before .next-row .ensures) (sym (t ∙ enters (shapeOf (a .l)) (a .l .pool) (a .s .now) (a .at .node .0) (a .at .index) (limitOf (a .next)) _ q))
 
@@ -65,7 +48,7 @@ returns-3 : tie.Need-returns-3
 returns-3 c =
     let a = c .before .before .before .before .before .before .before .before .before .before .before .args in
     let p = c .before .before .before .before .before .before .before .before .before .before .before .pre .1 in
-    let t = turns-in (shapeOf (a .l)) (a .l .pool) (a .s .now) (a .at) (limitOf (a .next)) (a .first) (p .0) (p .1) (c .before .before .before .before .before .before .before .before .if1 .left) in
+    let t = turns-in (p .0) (p .1) (limitOf (a .next)) (c .before .before .before .before .before .before .before .before .if1 .left) in
     let q : tested (shapeOf (a .l)) (a .l .pool) (a .s .now) (a .at .node .0) (a .at .index) (limitOf (a .next)) ≡ Unsound = rw (c .before .before .before .before .before .child .ensures, c .before .before .before .before .before .before .before .header .ensures, c .before .before .before .before .before .before .row .ensures, c .before .before .before .before .next-row .ensures) at (sym (c .before .before .test-node .ensures) ∙ c .enum-told .given .1) in
     rw (c .before .before .before .before .before .child .ensures) (sym (t ∙ stays (shapeOf (a .l)) (a .l .pool) (a .s .now) (a .at .node .0) (a .at .index) (limitOf (a .next)) q))
 

@@ -3,7 +3,8 @@ use borrow.Author.Tests.{not-true, not-false}
 use mathlib.Core.Path.{sym, _∙_}
 use native.Mathlib.Omega.{arith}
 use Rattle.node_read.specs.Layout.{shapeOf}
-use Rattle.tree_turn.proofs.Tests.{branch, steps-up, steps-in}
+use Rattle.tree_turn.specs.Turn.{hasChild, stepping}
+use Rattle.tree_turn.proofs.Tests.{branch}
 use Rattle.tree_turn.proofs.turn.untested.Statement.{statement}
 use Rattle.tree_turn.proofs.turn.untested.Tie as tie
 
@@ -11,7 +12,8 @@ is-done-requires : tie.Need-is-done-requires
 is-done-requires c κs = search needs
 
 returns : tie.Need-returns
-returns c = let a = c .before .before .before .args in sym (steps-up (shapeOf (a .l)) (a .s .now) (a .at .node .0) (a .at .index) (not-true _ (sym (c .before .is-done .ensures) ∙ c .if1 .taken)))
+unfolding stepping
+returns c = let a = c .before .before .before .args in rw (not-true (hasChild (shapeOf (a .l)) (a .s .now) (a .at .node .0) (a .at .index)) (sym (c .before .is-done .ensures) ∙ c .if1 .taken))
 
 child-requires : tie.Need-child-requires
 child-requires c κs =
@@ -21,9 +23,10 @@ child-requires c κs =
     (p .0, (p .1 .0, omega (arith, branch (shapeOf (a .l)) (a .s .now) (a .at .node .0) (a .at .index) e .1, p .1 .1)))
 
 returns-2 : tie.Need-returns-2
+unfolding stepping
 returns-2 c =
     let a = c .before .before .before .before .before .args in
-    rw (c .child .ensures) (sym (steps-in (shapeOf (a .l)) (a .s .now) (a .at .node .0) (a .at .index) (not-false _ (sym (c .before .before .before .is-done .ensures) ∙ c .before .before .if1 .left))))
+    rw (c .child .ensures, not-false (hasChild (shapeOf (a .l)) (a .s .now) (a .at .node .0) (a .at .index)) (sym (c .before .before .before .is-done .ensures) ∙ c .before .before .if1 .left))
 
 pub untested-spec : {M : Type 1} → statement M
 untested-spec = tie.close (tie.spec is-done-requires returns child-requires returns-2)
