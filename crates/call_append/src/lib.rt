@@ -11,7 +11,7 @@ ghost use Rattle.model.specs.Append.{appendTo, insertRowPage, room};
 ghost use Rattle.node_read.specs.Layout.{Fits, shapeOf};
 ghost use Rattle.node_chain.specs.Chain.{listed};
 ghost use Rattle.append_path.specs.Inside.{Inside, numberAt};
-ghost use Rattle.tree_right_edge.specs.Edge.{Ready, Usable, roomOf};
+ghost use Rattle.tree_right_edge.specs.Edge.{SoundEdge, Usable, roomOf};
 ghost use Rattle.call_append.specs.Placed.{grown, placed};
 use append_limits::Ruling;
 use append_path::NewPage;
@@ -98,7 +98,7 @@ fn insert_after(
 ) -> Inserted
     requires { ⌜ Fits (h .layout) (now s) ⌝ }
     requires { ⌜ (h .root .0 < h .layout .pool) × (h .«free_head» .0 ≡ freeHead (now s)) × (h .«free_count» ≡ freeCount (now s)) ⌝ }
-    requires { ⌜ Ready (shapeOf (h .layout)) (h .layout .pool) (now s) (h .root .0) (last .0) ⌝ }
+    requires { ⌜ SoundEdge (shapeOf (h .layout)) (h .layout .pool) (now s) (h .root .0) (last .0) ⌝ }
     requires { ⌜ roomOf free ≡ room (shapeOf (h .layout)) (now s) (h .root .0) ⌝ }
     ensures answer { λ r. ⌜ inserted r ≡ appendTo (shapeOf (h .layout)) (h .layout .pool) (now (s .entry)) (h .root .0) count (page .0) (leaf (last .0) Open) .answer ⌝ }
     ensures words { λ r. ⌜ now (s .exit) ≡ appendTo (shapeOf (h .layout)) (h .layout .pool) (now (s .entry)) (h .root .0) count (page .0) (leaf (last .0) Open) .words ⌝ }

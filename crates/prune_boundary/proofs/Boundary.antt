@@ -25,7 +25,7 @@ use Rattle.model.specs.Prune.{entryEnd}
 use Rattle.prune_boundary.specs.Behind.{Passed, limitAt, Done, Above, Behind}
 use Rattle.prune_leaf.specs.Progress.{Last}
 use Rattle.prune_boundary.proofs.Behind.{tall, behind-out}
-use Rattle.prune_boundary.specs.Edge.{Meets, at, firstPairs, firstNodes, wentOf, Stays, trimsUp, Cutting}
+use Rattle.prune_boundary.specs.Edge.{Meets, positionOf, firstPairs, firstNodes, wentOf, Stays, trimsUp, Cutting}
 use Rattle.prune_boundary.proofs.Goes.{cut-append, went-append, trims-append, pairs-split, all-went, pairs-go, goes}
 
 module _ (C : Shape) (P : ℕ) (w : List ℕ) where
@@ -181,7 +181,7 @@ module _ (C : Shape) (P : ℕ) (w : List ℕ) where
         let g : cut (suc h) e (level C w (suc h) (child C w m j)) (row C w m j) ≡ gone = rw (← a .leads, ← a .begins) (all-gone h n k full (c .below) (c .gone)) in
         let y : q .index ≡ suc j = omega (arith, a .some) in
         record {
-          behind = behind-out C P w root h (at n k) (q ∷ up) (c .behind) (inr l);
+          behind = behind-out C P w root h (positionOf n k) (q ∷ up) (c .behind) (inr l);
           some = a .some;
           below = omega (arith, d .2, c .below, a .begins);
           lands = up-lands root h n k q up c l;
@@ -231,7 +231,7 @@ module _ (C : Shape) (P : ℕ) (w : List ℕ) where
     first-under n zero x l a = absurd (omega arith)
     first-under n (suc u) x l a = chain (AllSound C P 0) (sound-below C P 0) (row C w n 0, level C w 0 (child C w n 0)) (pairsFrom C w (level C w 0) n (0 + 1) u) (Below x) a
 
-    pub cutting-leaf : (root n u i : ℕ) (up : List Position) → Behind C P w root 0 (at n i ∷ up) → Last C w n u e → Cutting C w P e root 0 n u up
+    pub cutting-leaf : (root n u i : ℕ) (up : List Position) → Behind C P w root 0 (positionOf n i ∷ up) → Last C w n u e → Cutting C w P e root 0 n u up
     unfolding Behind Meets Done
     cutting-leaf root n u i up b k =
         let d = leaf-done n u up (b .passed) (k .within) in

@@ -26,7 +26,7 @@ use Rattle.tree_turn.proofs.Moves.{leaf-move, end-move}
 use Rattle.tree_turn.proofs.InPlace.{popped}
 use Rattle.tree_turn.proofs.Trace.{walked-out}
 use Rattle.prune_boundary.specs.Behind.{Above, Behind}
-use Rattle.prune_boundary.specs.Edge.{Meets, at, firstPairs, firstNodes, wentOf, Stays, trimsUp, trimsOn, Cutting, Ended, Climbed}
+use Rattle.prune_boundary.specs.Edge.{Meets, positionOf, firstPairs, firstNodes, wentOf, Stays, trimsUp, trimsOn, Cutting, Ended, Climbed}
 use Rattle.prune_boundary.proofs.Behind.{tall, at-last}
 use Rattle.prune_boundary.proofs.Goes.{all-went}
 use Rattle.prune_boundary.proofs.Boundary.{stays-here, stays-root, cutting-up, cutting-leaf}
@@ -62,15 +62,15 @@ module _ {C : Shape} {P : ℕ} {w : List ℕ} {e root : ℕ} where
     above-is : above (marked p u) ≡ above p
     above-is = stack-set (p .positions) (p .depth - 1) (record { node = lastOf p .node; index = u }) (p .depth - 1) (omega arith)
 
-    trail-is : trail (marked p u) ≡ at n u ∷ above p
-    trail-is = stack-turn (p .positions) (p .depth) (at n u) (d .deep) (omega (arith, d .long, ended-low))
+    trail-is : trail (marked p u) ≡ positionOf n u ∷ above p
+    trail-is = stack-turn (p .positions) (p .depth) (positionOf n u) (d .deep) (omega (arith, d .long, ended-low))
 
-    valid-is : Valid C P w (height C w n) (at n u ∷ above p)
+    valid-is : Valid C P w (height C w n) (positionOf n u ∷ above p)
     unfolding Valid
     valid-is = let t = valid-top C P w p (d .deep) (d .valid) in record { inside = t .inside; high = refl; within = d .last .within; narrow = t .narrow; above = t .over }
 
     valid-marked : ValidPath C P w (marked p u)
-    valid-marked = valid-path C P w (marked p u) (height C w n) (at n u ∷ above p) trail-is valid-is
+    valid-marked = valid-path C P w (marked p u) (height C w n) (positionOf n u ∷ above p) trail-is valid-is
 
     -- the index of a leaf changes nothing of what is left
     same-left : left false C P w p ≡ left false C P w (marked p u)
@@ -102,7 +102,7 @@ module _ {C : Shape} {P : ℕ} {w : List ℕ} {e root : ℕ} where
 
     pub start-climb : Climbed C P w e root (marked p u)
     start-climb =
-        let b : Behind C P w root 0 (at n (lastOf p .index) ∷ above p) = rw (d .last .leaf) at (at-last C P w root p (d .deep) (d .behind)) in
+        let b : Behind C P w root 0 (positionOf n (lastOf p .index) ∷ above p) = rw (d .last .leaf) at (at-last C P w root p (d .deep) (d .behind)) in
         let c : Cutting C w P e root (height C w n) n u (above p) = fits 0 (record { node = lastOf p .node; index = u }) (above p) (cutting-leaf C P w e root n u (lastOf p .index) (above p) b (d .last)) in
         record {
           deep = d .deep;

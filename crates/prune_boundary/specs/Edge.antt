@@ -24,8 +24,8 @@ Meets Open e = Unit {0}
 Meets (Below x) e = e ≡ x
 
 -- position k of node n
-abbrev pub at : ℕ → ℕ → Position
-at n k = record { node = record { 0 = n }; index = k }
+abbrev pub positionOf : ℕ → ℕ → Position
+positionOf n k = record { node = record { 0 = n }; index = k }
 
 module _ (C : Shape) (w : List ℕ) where
   -- the pairs of node n of height h; its first k
@@ -52,7 +52,7 @@ module _ (C : Shape) (w : List ℕ) where
 
   -- the first k entries of node n go, and the last of them ends at e
   pub record Cutting (P e root h n k : ℕ) (up : List Position) : Type 0 where
-    pub behind : Behind C P w root h (at n k ∷ up)
+    pub behind : Behind C P w root h (positionOf n k ∷ up)
     pub some : 1 ≤ k
     pub below : start C w n < e
     pub lands : Meets (limitAt C P w h n k up) e
@@ -107,7 +107,7 @@ pub record Topped (C : Shape) (P : ℕ) (w : List ℕ) (e root : ℕ) (p : Path)
   pub counted : k ≡ length (wentOf C w (trimsOn p))
 
 -- the edge of a prune to row e: on each level of the tree a node with how many of its entries go, 0 below the last that loses some
-pub record Edged (C : Shape) (P : ℕ) (w : List ℕ) (e root : ℕ) (edge : Path) (k : ℕ) : Type 0 where
+pub record PruneEdge (C : Shape) (P : ℕ) (w : List ℕ) (e root : ℕ) (edge : Path) (k : ℕ) : Type 0 where
   pub from : Path
   pub topped : Topped C P w e root from k
   pub settled : Settled from edge (height C w root + 1)

@@ -22,7 +22,7 @@ use Rattle.node_test.proofs.Rows.{facts}
 use Rattle.node_chain.specs.Chain.{listed}
 use Rattle.node_chain.proofs.Listed.{length-listed}
 use Rattle.tree_turn.specs.Left.{left, Valid}
-use Rattle.prune_boundary.specs.Edge.{wentOf, trimsOn, Climbed, Edged}
+use Rattle.prune_boundary.specs.Edge.{wentOf, trimsOn, Climbed, PruneEdge}
 use Rattle.prune_boundary.specs.Trims.{trimsOf, NoneBelow, Untouched}
 use Rattle.prune_boundary.proofs.Joined.{root-high, depth-low}
 use Rattle.prune_boundary.proofs.Distinct.{none, untouched-of, Standing, edge-stands}
@@ -37,7 +37,7 @@ use Rattle.prune_cut.specs.Found.{Rooted, AllGo, SomeStay, resetTo, cutT
 use Rattle.prune_cut.specs.Writable.{Resettable, Writable, cutWords}
 use Rattle.prune_cut.proofs.Outside.{copies-outside}
 
-module _ {C : Shape} {P : ℕ} {w : List ℕ} {e root f j : ℕ} {edge : Path} (R : Rooted C P w root f) (E : Edged C P w e root edge j) where
+module _ {C : Shape} {P : ℕ} {w : List ℕ} {e root f j : ℕ} {edge : Path} (R : Rooted C P w root f) (E : PruneEdge C P w e root edge j) where
   abbrev h : ℕ
   h = height C w root
 

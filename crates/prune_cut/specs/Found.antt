@@ -14,7 +14,7 @@ use Rattle.model.specs.Paths.{lastOf}
 use Rattle.model.specs.declared.path.Path.{Path}
 use Rattle.node_read.specs.Layout.{shapeOf}
 use Rattle.node_read.specs.declared.header.StoreHeader.{StoreHeader}
-use Rattle.prune_boundary.specs.Edge.{wentOf, Edged}
+use Rattle.prune_boundary.specs.Edge.{wentOf, PruneEdge}
 use Rattle.prune_boundary.specs.Trims.{trimsOf}
 use Rattle.prune_edge.specs.declared.Boundary.{Boundary}
 
@@ -77,7 +77,7 @@ abbrev pub RootedIn : StoreHeader → List ℕ → Type 0
 RootedIn h w = Rooted (shapeOf (h .layout)) (h .layout .pool) w (h .root .0) (h .«free_count»)
 
 abbrev pub EdgedIn : StoreHeader → List ℕ → ℕ → Boundary → Type 0
-EdgedIn h w e b = Edged (shapeOf (h .layout)) (h .layout .pool) w e (h .root .0) (b .edge) (b .gone)
+EdgedIn h w e b = PruneEdge (shapeOf (h .layout)) (h .layout .pool) w e (h .root .0) (b .edge) (b .gone)
 
 abbrev pub resetIn : StoreHeader → List ℕ → ℕ → ℕ → Path → Outcome
 resetIn h w e k p = resetTo (shapeOf (h .layout)) (h .layout .pool) w (h .root .0) e k (trimsOf p)

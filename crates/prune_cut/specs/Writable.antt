@@ -9,14 +9,14 @@ use Rattle.model.specs.Prune.{copyAll, trimAll}
 use Rattle.model.specs.declared.id.NodeNo.{NodeNo}
 use Rattle.model.specs.declared.path.Path.{Path}
 use Rattle.node_chain.specs.Chain.{listed}
-use Rattle.tree_free.specs.Ready.{Ready}
+use Rattle.tree_free.specs.CanFree.{CanFree}
 use Rattle.prune_boundary.specs.Edge.{wentOf}
 use Rattle.prune_boundary.specs.Trims.{trimsOf, Trims, Outside, Untouched}
 use Rattle.prune_write.specs.Nodes.{AllIn}
 
 -- the nodes that go are the first j in postorder, and can be freed; the root is none of them
 pub record Resettable (C : Shape) (P : ℕ) (w : List ℕ) (root : ℕ) (edge : Path) (j : ℕ) : Type 0 where
-  pub ready : Ready C P w root j
+  pub ready : CanFree C P w root j
   pub first : take j (rootNodes C w root) ≡ wentOf C w (trimsOf edge)
   pub inside : root < P
   pub root-stays : occ root (wentOf C w (trimsOf edge)) ≡ 0

@@ -23,7 +23,7 @@ use Rattle.tree_turn.specs.Left.{bound, rest, Valid, left, onPath}
 use Rattle.tree_turn.proofs.Valid.{valid-path}
 use Rattle.tree_turn.proofs.Rest.{child-good, rest-end, valid-entered}
 use Rattle.tree_turn.proofs.InPlace.{rooted-left}
-use Rattle.tree_free.specs.Ready.{Ready}
+use Rattle.tree_free.specs.CanFree.{CanFree}
 use Rattle.tree_free.proofs.Freeing.{Freeable}
 
 -- the visits of the tree from node n on, after the first
@@ -87,7 +87,7 @@ module _ (C : Shape) (P : ℕ) (w : List ℕ) (n : ℕ) (inside : n < P) where
   begin (soundTree l g) = sound-begin l g
 
   -- the law: all nodes of a sound tree can be freed
-  pub ready : Header (C .cap) P w → SoundRoot C P w (height C w n) n → (k : ℕ) → k ≡ length (rootNodes C w n) → freeCount w + k ≤ 65535 → Ready C P w n k
+  pub ready : Header (C .cap) P w → SoundRoot C P w (height C w n) n → (k : ℕ) → k ≡ length (rootNodes C w n) → freeCount w + k ≤ 65535 → CanFree C P w n k
   ready hd s k e room =
       let b = begin s in
       record {
@@ -104,7 +104,7 @@ module _ (C : Shape) (P : ℕ) (w : List ℕ) (n : ℕ) (inside : n < P) where
       }
 
 -- the first turn
-pub start-freeing : (C : Shape) (P : ℕ) (w : List ℕ) (n k : ℕ) → Ready C P w n k → Freeable C P w (freeAll C w (take k (rootNodes C w n))) k 0 w (rooted n)
+pub start-freeing : (C : Shape) (P : ℕ) (w : List ℕ) (n k : ℕ) → CanFree C P w n k → Freeable C P w (freeAll C w (take k (rootNodes C w n))) k 0 w (rooted n)
 unfolding stack onPath
 start-freeing C P w n k d =
     record {

@@ -5,7 +5,7 @@ ghost use Prim.Native.Nat.{_+_, _-_, _≤_, _<_};
 ghost use lib.ListN.{take};
 ghost use Rattle.model.specs.Words.{freeAll};
 ghost use Rattle.model.specs.Reading.{rootNodes};
-ghost use Rattle.tree_free.specs.Ready.{Ready};
+ghost use Rattle.tree_free.specs.CanFree.{CanFree};
 ghost use Rattle.node_read.specs.Layout.{shapeOf};
 use model::id::NodeNo;
 use model::path::Path;
@@ -17,7 +17,7 @@ use tree_turn::turn::Step;
 
 // Frees the first k nodes, in postorder, of the tree from root.
 pub fn free_first(l: Layout, s: &mut [u64], root: NodeNo, k: u64)
-    requires { ⌜ Ready (shapeOf l) (l .pool) (now s) (root .0) k ⌝ }
+    requires { ⌜ CanFree (shapeOf l) (l .pool) (now s) (root .0) k ⌝ }
     ensures { λ _. ⌜ now (s .exit) ≡ freeAll (shapeOf l) (now (s .entry)) (take k (rootNodes (shapeOf l) (now (s .entry)) (root .0))) ⌝ }
 {
     let mut path = Path::rooted(root);

@@ -20,7 +20,7 @@ use Rattle.model.specs.declared.id.NodeNo.{NodeNo}
 use Rattle.model.specs.declared.path.Position.{Position}
 use Rattle.tree_right_edge.specs.declared.EdgeTest.the-variants.{Unsound, Sound}
 use Rattle.tree_right_edge.specs.declared.RightEdge.{RightEdge}
-use Rattle.tree_right_edge.specs.Edge.{rightEdge, roomOf, endOf, Edge, Ready, Descended, Edged, Usable}
+use Rattle.tree_right_edge.specs.Edge.{rightEdge, roomOf, endOf, Edge, SoundEdge, Descended, EdgeFound, Usable}
 
 never : {A : Type 0} (m l : ℕ) (b : Limit) → unsound m ≡ leaf l b → A
 never m l b e = let z : _≡_ {A = ℕ} 0 1 = cc in absurd (omega arith)
@@ -81,12 +81,12 @@ module _ (C : Shape) (P : ℕ) (w : List ℕ) where
       (λ s. never n l c (rw (t, s) at e)))
       (λ t. never m l c (rw t at e))
 
-  pub ready : (n l : ℕ) (b : Limit) → n < P → rootLeaf (toRight C w) C P w n ≡ leaf l b → Ready C P w n l × (on (height C w n) n (height C w n) .node .0 ≡ l)
+  pub ready : (n l : ℕ) (b : Limit) → n < P → rootLeaf (toRight C w) C P w n ≡ leaf l b → SoundEdge C P w n l × (on (height C w n) n (height C w n) .node .0 ≡ l)
   unfolding rootLeaf Edge rightEdge
   ready n l b i e =
       by-test (emptyRoot C w n)
       (λ t. let z = empty-facts C w n t in
-      subst (λ (k : ℕ). Ready C P w n k × (on (height C w n) n (height C w n) .node .0 ≡ k)) (same-leaf n l Open b (rw t at e))
+      subst (λ (k : ℕ). SoundEdge C P w n k × (on (height C w n) n (height C w n) .node .0 ≡ k)) (same-leaf n l Open b (rw t at e))
       (record { high = omega (arith, z .0); edge = rw (z .0) i; inside = i; low = z .2 }, rw (z .0)))
       (λ t. by-test (leb (height C w n) maxHeight)
       (λ u. let d = down (height C w n) n n (start C w n) Open l b (rw (t, u) at e) in
@@ -127,7 +127,7 @@ module _ (C : Shape) (P : ℕ) (w : List ℕ) where
       under h n c zero k e f a b = absurd (omega arith)
       under h n c (suc i) k e f a b = rw (sym e) (f i a (omega arith))
 
-  pub usable : (n l : ℕ) → Ready C P w n l → room C w n .needed ≤ freeCount w → (height C w n < room C w n .needed → height C w n ≢ maxHeight) → Usable C P w n (room C w n)
+  pub usable : (n l : ℕ) → SoundEdge C P w n l → room C w n .needed ≤ freeCount w → (height C w n < room C w n .needed → height C w n ≢ maxHeight) → Usable C P w n (room C w n)
   unfolding room
   usable n l r f m =
       ⊎-elim
@@ -142,21 +142,21 @@ module _ (C : Shape) (P : ℕ) (w : List ℕ) (n : ℕ) (e : RightEdge) where
   never-sound : {A : Type 0} (m : NodeNo) → e .test ≡ Unsound m → e .test ≡ Sound → A
   never-sound m t q = let z : _≡_ {A = ℕ} 0 1 = cc in absurd (omega arith)
 
-  pub edged-not : (m : NodeNo) → e .test ≡ Unsound m → rootLeaf (toRight C w) C P w n ≡ unsound (m .0) → Edged C P w n e
+  pub edged-not : (m : NodeNo) → e .test ≡ Unsound m → rootLeaf (toRight C w) C P w n ≡ unsound (m .0) → EdgeFound C P w n e
   edged-not m t d = record { answer = rw t (sym d); whole = λ q. never-sound m t q }
 
   -- an edge that ends at a leaf is ready
-  edge-ready : n < P → endOf (e .test) (e .leaf .0) ≡ rootLeaf (toRight C w) C P w n → e .test ≡ Sound → Ready C P w n (e .leaf .0)
+  edge-ready : n < P → endOf (e .test) (e .leaf .0) ≡ rootLeaf (toRight C w) C P w n → e .test ≡ Sound → SoundEdge C P w n (e .leaf .0)
   edge-ready l a q = ready C P w n (e .leaf .0) Open l (sym a ∙ rw q) .0
 
-  pub edged-down : n < P → rootLeaf (toRight C w) C P w n ≡ descend (toRight C w) C P w (height C w n) n n (start C w n) Open → Descended C P w (height C w n) n (start C w n) e → Edged C P w n e
+  pub edged-down : n < P → rootLeaf (toRight C w) C P w n ≡ descend (toRight C w) C P w (height C w n) n n (start C w n) Open → Descended C P w (height C w n) n (start C w n) e → EdgeFound C P w n e
   unfolding room
   edged-down l p d =
       let a = d .answer ∙ sym p in
       record { answer = a; whole = λ q. let v = d .walked q in record { ready = edge-ready l a q; deep = v .deep; path = v .path; room = v .room } }
 
   -- an empty root: one position, with room
-  pub edged-empty : n < P → 0 < C .cap → emptyRoot C w n ≡ true → e .test ≡ Sound → e .leaf .0 ≡ n → e .path .depth ≡ 1 → take 1 (e .path .positions) ≡ record { node = record { 0 = n }; index = 0 } ∷ [] → roomOf (e .room) ≡ record { node = n; needed = 0 } → Edged C P w n e
+  pub edged-empty : n < P → 0 < C .cap → emptyRoot C w n ≡ true → e .test ≡ Sound → e .leaf .0 ≡ n → e .path .depth ≡ 1 → take 1 (e .path .positions) ≡ record { node = record { 0 = n }; index = 0 } ∷ [] → roomOf (e .room) ≡ record { node = n; needed = 0 } → EdgeFound C P w n e
   unfolding room roomFrom rightEdge
   edged-empty l c t k f d p o =
       let z = empty-facts C w n t in

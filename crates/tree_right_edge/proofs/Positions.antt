@@ -15,7 +15,7 @@ use Rattle.model.specs.Paths.{noPosition}
 use Rattle.model.specs.declared.path.Position.{Position}
 use Rattle.tree_right_edge.specs.declared.EdgeTest.the-variants.{Sound}
 use Rattle.tree_right_edge.specs.declared.RightEdge.{RightEdge}
-use Rattle.tree_right_edge.specs.Edge.{lastIn, rightEdge, roomOf, Edge, Whole, Edged}
+use Rattle.tree_right_edge.specs.Edge.{lastIn, rightEdge, roomOf, Edge, WholeEdge, EdgeFound}
 use Rattle.tree_right_edge.proofs.Edges.{on, ready, Lowest, found}
 
 module _ (C : Shape) (P : ℕ) (w : List ℕ) where
@@ -36,11 +36,11 @@ module _ (C : Shape) (P : ℕ) (w : List ℕ) where
 
 -- The right edge from root n, where it is sound: its positions, from the root's down to the leaf's ---------
 
-module _ (C : Shape) (P : ℕ) (w : List ℕ) (n : ℕ) (e : RightEdge) (d : Edged C P w n e) (s : e .test ≡ Sound) where
+module _ (C : Shape) (P : ℕ) (w : List ℕ) (n : ℕ) (e : RightEdge) (d : EdgeFound C P w n e) (s : e .test ≡ Sound) where
   abbrev pub position : ℕ → Position
   position i = getD (e .path .positions) i noPosition
 
-  abbrev v : Whole C P w n e
+  abbrev v : WholeEdge C P w n e
   v = d .whole s
 
   stands : (i : ℕ) → i < e .path .depth → position i ≡ on C P w (height C w n) n i

@@ -37,14 +37,14 @@ Edge C P w zero n = n < P
 Edge C P w (suc h) n = (n < P) × (1 ≤ count C w n) × (count C w n ≤ C .cap) × Edge C P w h (child C w n (toRight C w n))
 
 -- the right edge from root n is sound, down to leaf l
-pub record Ready (C : Shape) (P : ℕ) (w : List ℕ) (n l : ℕ) : Type 0 where
+pub record SoundEdge (C : Shape) (P : ℕ) (w : List ℕ) (n l : ℕ) : Type 0 where
   pub high : height C w n ≤ maxHeight
   pub edge : Edge C P w (height C w n) n
   pub inside : l < P
   pub low : appendStart C w l ≤ rowLimit
 
 -- the path down from node n of height h, and the lowest node on it with room
-pub record Walked (C : Shape) (w : List ℕ) (h n : ℕ) (e : RightEdge) : Type 0 where
+pub record EdgeWalked (C : Shape) (w : List ℕ) (h n : ℕ) (e : RightEdge) : Type 0 where
   pub deep : e .path .depth ≡ h + 1
   pub path : take (e .path .depth) (e .path .positions) ≡ rightEdge C w h n
   pub room : roomOf (e .room) ≡ roomFrom C w h n (record { node = n; needed = h + 2 })
@@ -52,19 +52,19 @@ pub record Walked (C : Shape) (w : List ℕ) (h n : ℕ) (e : RightEdge) : Type 
 -- what a walk down from node n of height h answers, which row r leads to: the first unsound node, or the path to the leaf
 pub record Descended (C : Shape) (P : ℕ) (w : List ℕ) (h n r : ℕ) (e : RightEdge) : Type 0 where
   pub answer : endOf (e .test) (e .leaf .0) ≡ descend (toRight C w) C P w h n n r Open
-  pub walked : e .test ≡ Sound → Walked C w h n e
+  pub walked : e .test ≡ Sound → EdgeWalked C w h n e
 
 -- the right edge from root n, where it is sound: its path, the lowest node on it with room, and what its tests have shown
-pub record Whole (C : Shape) (P : ℕ) (w : List ℕ) (n : ℕ) (e : RightEdge) : Type 0 where
-  pub ready : Ready C P w n (e .leaf .0)
+pub record WholeEdge (C : Shape) (P : ℕ) (w : List ℕ) (n : ℕ) (e : RightEdge) : Type 0 where
+  pub ready : SoundEdge C P w n (e .leaf .0)
   pub deep : e .path .depth ≡ height C w n + 1
   pub path : take (e .path .depth) (e .path .positions) ≡ rightEdge C w (height C w n) n
   pub room : roomOf (e .room) ≡ A.room C w n
 
 -- what the walk from root n answers, by 01's definition of the path to the right leaf
-pub record Edged (C : Shape) (P : ℕ) (w : List ℕ) (n : ℕ) (e : RightEdge) : Type 0 where
+pub record EdgeFound (C : Shape) (P : ℕ) (w : List ℕ) (n : ℕ) (e : RightEdge) : Type 0 where
   pub answer : endOf (e .test) (e .leaf .0) ≡ rootLeaf (toRight C w) C P w n
-  pub whole : e .test ≡ Sound → Whole C P w n e
+  pub whole : e .test ≡ Sound → WholeEdge C P w n e
 
 -- room that an append may use, the chain aside
 pub record Usable (C : Shape) (P : ℕ) (w : List ℕ) (n : ℕ) (o : A.Room) : Type 0 where

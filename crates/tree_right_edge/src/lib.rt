@@ -7,7 +7,7 @@ ghost use Rattle.model.specs.Words.{maxHeight};
 ghost use Rattle.model.specs.Append.{appendStart};
 ghost use Rattle.node_read.specs.Layout.{Fits, shapeOf};
 ghost use Rattle.tree_right_edge.specs.declared.EdgeTest.the-variants.{Unsound};
-ghost use Rattle.tree_right_edge.specs.Edge.{Descended, Edged};
+ghost use Rattle.tree_right_edge.specs.Edge.{Descended, EdgeFound};
 use model::id::NodeNo;
 use model::id::RowID;
 use model::path::Path;
@@ -117,7 +117,7 @@ fn go_down(l: Layout, s: &[u64], root: NodeNo, height: u64, row: RowID) -> Right
 pub fn right_edge(l: Layout, s: &[u64], root: NodeNo) -> RightEdge
     requires { ⌜ Fits l (now s) ⌝ }
     requires { ⌜ root .0 < l .pool ⌝ }
-    ensures { λ r. ⌜ Edged (shapeOf l) (l .pool) (now (s .entry)) (root .0) r ⌝ }
+    ensures { λ r. ⌜ EdgeFound (shapeOf l) (l .pool) (now (s .entry)) (root .0) r ⌝ }
 {
     let empty = node_root::is_empty_root(l, s, root);
     if empty {

@@ -19,7 +19,7 @@ use Rattle.law_formed.proofs.Clean.{clear-clean}
 use Rattle.law_formed.proofs.Few.{root-few-nodes, root-few-entries}
 use Rattle.law_formed.proofs.Rooted.{sound-root}
 use Rattle.law_formed.proofs.Tally.{entered, pagesIn, lower, sound-visits, leaf-visits, tree-visits, blank-visits, root-entered, root-pages}
-use Rattle.tree_survey.specs.Leaves.{sumPairs, leafCount, rootLeaves}
+use Rattle.tree_survey.specs.Leaves.{sumPairs, leavesBelow, rootLeaves}
 use Rattle.tree_tally.specs.Tally.{more, noCounts, counted, tally}
 use Rattle.tree_tally.specs.declared.Counts.{Counts}
 use Rattle.tree_tally.specs.declared.Survey.{Survey}
@@ -124,9 +124,9 @@ module _ (C : Shape) (w : List ℕ) where
 
 module _ (C : Shape) (P : ℕ) (w : List ℕ) where
   leaves-pairs : (h n i k : ℕ) (b : Limit)
-      → ((m x r : ℕ) (a : Limit) → AllSound C P (suc h) (level C w (suc h) x) r a → leavesIn C w (visits false C P (suc h) m (level C w (suc h) x) r a) ≡ leafCount h (level C w (suc h) x))
+      → ((m x r : ℕ) (a : Limit) → AllSound C P (suc h) (level C w (suc h) x) r a → leavesIn C w (visits false C P (suc h) m (level C w (suc h) x) r a) ≡ leavesBelow h (level C w (suc h) x))
       → allPairs (AllSound C P (suc h)) (pairsFrom C w (level C w (suc h)) n i k) b
-      → leavesIn C w (overPairs (visits false C P (suc h) n) (pairsFrom C w (level C w (suc h)) n i k) b) ≡ sumPairs (leafCount h) (pairsFrom C w (level C w (suc h)) n i k)
+      → leavesIn C w (overPairs (visits false C P (suc h) n) (pairsFrom C w (level C w (suc h)) n i k) b) ≡ sumPairs (leavesBelow h) (pairsFrom C w (level C w (suc h)) n i k)
   unfolding pairsFrom overPairs allPairs leavesIn sumPairs
   leaves-pairs h n i zero b f a = refl
   leaves-pairs h n i (suc k) b f a =
@@ -135,8 +135,8 @@ module _ (C : Shape) (P : ℕ) (w : List ℕ) where
       omega (arith, leaves-append C w v (overPairs (visits false C P (suc h) n) ps b), f n (child C w n i) (row C w n i) (next ps b) (a .0), leaves-pairs h n (i + 1) k b f (a .1))
 
   pub leaves-sound : (h m n r : ℕ) (b : Limit) → AllSound C P (suc h) (level C w (suc h) n) r b
-      → leavesIn C w (visits false C P (suc h) m (level C w (suc h) n) r b) ≡ leafCount h (level C w (suc h) n)
-  unfolding AllSound leafCount level leavesIn
+      → leavesIn C w (visits false C P (suc h) m (level C w (suc h) n) r b) ≡ leavesBelow h (level C w (suc h) n)
+  unfolding AllSound leavesBelow level leavesIn
   leaves-sound zero m n r b g =
       let ps = pairsFrom C w (level C w 0) n 0 (count C w n) in
       ap (leavesIn C w) (sound-visits C P 0 m (level C w 1 n) r b g)
@@ -147,8 +147,8 @@ module _ (C : Shape) (P : ℕ) (w : List ℕ) where
       ∙ rw (ne-eqb (height C w n) 0 (λ e. absurd (omega (arith, own C P w (suc h) n r b g .0))))
       (omega (arith, leaves-append C w below (Leave n ∷ []), leaves-pairs h n 0 (count C w n) (last (suc h) (end C w n) b) (λ m₂ x r₂ a q. leaves-sound h m₂ x r₂ a q) (g .2)))
 
-  one-leaf : (h n : ℕ) → h ≡ 0 → leafCount h (level C w (suc h) n) ≡ 1
-  unfolding leafCount
+  one-leaf : (h n : ℕ) → h ≡ 0 → leavesBelow h (level C w (suc h) n) ≡ 1
+  unfolding leavesBelow
   one-leaf zero n e = refl
   one-leaf (suc h) n e = absurd (omega arith)
 

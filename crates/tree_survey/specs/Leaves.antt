@@ -10,9 +10,9 @@ unfoldable pub sumPairs : {K : Type 0} → (K → ℕ) → List (ℕ × K) → �
 sumPairs f [] = 0
 sumPairs f (p ∷ ps) = f (p .1) + sumPairs f ps
 
-unfoldable pub leafCount : (h : ℕ) → Level (suc h) → ℕ
-leafCount zero t = 1
-leafCount (suc h) t = sumPairs (leafCount h) (t .pairs)
+unfoldable pub leavesBelow : (h : ℕ) → Level (suc h) → ℕ
+leavesBelow zero t = 1
+leavesBelow (suc h) t = sumPairs (leavesBelow h) (t .pairs)
 
 abbrev pub rootLeaves : Shape → List ℕ → ℕ → ℕ
-rootLeaves C w n = leafCount (height C w n) (rootTree C w n)
+rootLeaves C w n = leavesBelow (height C w n) (rootTree C w n)

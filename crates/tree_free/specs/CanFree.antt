@@ -13,7 +13,7 @@ use Rattle.tree_turn.specs.Left.{rest, Valid}
 
 -- The walk from node n on begins with some visits, none of them unsound, that enter each node once and leave the first k
 -- nodes in postorder; and the free count has room for these.
-pub record Ready (C : Shape) (P : ℕ) (w : List ℕ) (n k : ℕ) : Type 0 where
+pub record CanFree (C : Shape) (P : ℕ) (w : List ℕ) (n k : ℕ) : Type 0 where
   pub header : Header (C .cap) P w
   pub valid : Valid C P w (height C w n) (entered n ∷ [])
   pub seen : List Visit
