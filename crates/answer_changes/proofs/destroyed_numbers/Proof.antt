@@ -1,7 +1,9 @@
 use borrow.Author.Needs.{needs}
+use mathlib.Core.Path.{refl}
 use Rattle.answer_numbers.specs.Numbers.{answerWords}
-use Rattle.answers_read.proofs.checked_numbers.Statement.{statement}
-use Rattle.answers_read.proofs.checked_numbers.Tie as tie
+use Rattle.answer_numbers.proofs.Encoding.{encodes}
+use Rattle.answer_changes.proofs.destroyed_numbers.Statement.{statement}
+use Rattle.answer_changes.proofs.destroyed_numbers.Tie as tie
 
 enum-known-a : tie.Need-enum-known-a
 enum-known-a c = search needs
@@ -17,14 +19,13 @@ refusal-numbers-requires c κs = search needs
 
 returns : tie.Need-returns
 unfolding answerWords
-returns c = rw (c .before .before .a .given .1) (c .values .ensures)
+returns c = rw (c .before .before .a .given .1) (encodes refl (c .values .ensures))
 
 returns-2 : tie.Need-returns-2
-unfolding answerWords
 returns-2 c = rw (c .before .before .a2 .given .1) (c .refusal-numbers .ensures)
 
-pub checked-numbers-spec : {M : Type 1} → statement M
-checked-numbers-spec =
+pub destroyed-numbers-spec : {M : Type 1} → statement M
+destroyed-numbers-spec =
     tie.close
     (tie.spec
     enum-known-a

@@ -1,8 +1,7 @@
 // Answers of the calls that read a store, as numbers.
 
-ghost use mathlib.Core.Path.{_≡_};
 ghost use Rattle.model.specs.Refusals.{checkedAnswer, location, nextLeaf};
-ghost use Rattle.answer_numbers.specs.Numbers.{answerWords, wordsOf};
+ghost use Rattle.answer_numbers.specs.Numbers.{Encodes};
 use answer_numbers;
 use answer_numbers::Numbers;
 use model::answer::Checked;
@@ -10,7 +9,7 @@ use model::answer::NextLeaf;
 use model::answer::RowLocation;
 
 pub fn location_numbers(a: RowLocation) -> Numbers
-    ensures { λ n. ⌜ wordsOf n ≡ answerWords (location a) ⌝ }
+    ensures { λ n. ⌜ Encodes n (location a) ⌝ }
 {
     match a {
         RowLocation::RowPage(page) => answer_numbers::values(1, page.0, 0, 0),
@@ -20,7 +19,7 @@ pub fn location_numbers(a: RowLocation) -> Numbers
 }
 
 pub fn next_leaf_numbers(a: NextLeaf) -> Numbers
-    ensures { λ n. ⌜ wordsOf n ≡ answerWords (nextLeaf a) ⌝ }
+    ensures { λ n. ⌜ Encodes n (nextLeaf a) ⌝ }
 {
     match a {
         NextLeaf::Found(l) => answer_numbers::values(3, l.start_row_id.0, l.end_row_id.0, l.count),
@@ -30,7 +29,7 @@ pub fn next_leaf_numbers(a: NextLeaf) -> Numbers
 }
 
 pub fn checked_numbers(a: Checked) -> Numbers
-    ensures { λ n. ⌜ wordsOf n ≡ answerWords (checkedAnswer a) ⌝ }
+    ensures { λ n. ⌜ Encodes n (checkedAnswer a) ⌝ }
 {
     match a {
         Checked::WellFormed {

@@ -1,7 +1,9 @@
 use borrow.Author.Needs.{needs}
+use mathlib.Core.Path.{refl}
 use Rattle.answer_numbers.specs.Numbers.{answerWords}
-use Rattle.answers.proofs.created_numbers.Statement.{statement}
-use Rattle.answers.proofs.created_numbers.Tie as tie
+use Rattle.answer_numbers.proofs.Encoding.{encodes}
+use Rattle.answer_changes.proofs.created_numbers.Statement.{statement}
+use Rattle.answer_changes.proofs.created_numbers.Tie as tie
 
 enum-told : tie.Need-enum-told
 enum-told c = search needs
@@ -17,10 +19,9 @@ refusal-numbers-requires c κs = search needs
 
 returns : tie.Need-returns
 unfolding answerWords
-returns c = rw (c .before .enum-told .given .1) (c .values .ensures)
+returns c = rw (c .before .enum-told .given .1) (encodes refl (c .values .ensures))
 
 returns-2 : tie.Need-returns-2
-unfolding answerWords
 returns-2 c = rw (c .before .before .a .given .1) (c .refusal-numbers .ensures)
 
 pub created-numbers-spec : {M : Type 1} → statement M

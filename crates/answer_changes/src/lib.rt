@@ -1,8 +1,7 @@
 // Answers of the calls that change a store, as numbers.
 
-ghost use mathlib.Core.Path.{_≡_};
 ghost use Rattle.model.specs.Refusals.{created, destroyed, inserted, pruned};
-ghost use Rattle.answer_numbers.specs.Numbers.{answerWords, wordsOf};
+ghost use Rattle.answer_numbers.specs.Numbers.{Encodes};
 use answer_numbers;
 use answer_numbers::Numbers;
 use model::answer::Created;
@@ -11,7 +10,7 @@ use model::answer::Inserted;
 use model::answer::Pruned;
 
 pub fn created_numbers(a: Created) -> Numbers
-    ensures { λ n. ⌜ wordsOf n ≡ answerWords (created a) ⌝ }
+    ensures { λ n. ⌜ Encodes n (created a) ⌝ }
 {
     match a {
         Created::Done => answer_numbers::values(0, 0, 0, 0),
@@ -20,7 +19,7 @@ pub fn created_numbers(a: Created) -> Numbers
 }
 
 pub fn inserted_numbers(a: Inserted) -> Numbers
-    ensures { λ n. ⌜ wordsOf n ≡ answerWords (inserted a) ⌝ }
+    ensures { λ n. ⌜ Encodes n (inserted a) ⌝ }
 {
     match a {
         Inserted::Done(i) => answer_numbers::values(
@@ -34,7 +33,7 @@ pub fn inserted_numbers(a: Inserted) -> Numbers
 }
 
 pub fn pruned_numbers(a: Pruned) -> Numbers
-    ensures { λ n. ⌜ wordsOf n ≡ answerWords (pruned a) ⌝ }
+    ensures { λ n. ⌜ Encodes n (pruned a) ⌝ }
 {
     match a {
         Pruned::Done(p) => answer_numbers::values(
@@ -48,7 +47,7 @@ pub fn pruned_numbers(a: Pruned) -> Numbers
 }
 
 pub fn destroyed_numbers(a: Destroyed) -> Numbers
-    ensures { λ n. ⌜ wordsOf n ≡ answerWords (destroyed a) ⌝ }
+    ensures { λ n. ⌜ Encodes n (destroyed a) ⌝ }
 {
     match a {
         Destroyed::Done { nodes, pages } => answer_numbers::values(2, nodes, pages, 0),
