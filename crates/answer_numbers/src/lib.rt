@@ -3,7 +3,7 @@
 ghost use mathlib.Core.Path.{_≡_};
 ghost use mathlib.Core.List.{[], _∷_};
 ghost use Rattle.model.specs.Refusals.{refusal, refused};
-ghost use Rattle.answer_numbers.specs.Numbers.{answerWords, wordsOf};
+ghost use Rattle.answer_numbers.specs.Numbers.{Encodes, wordsOf};
 use model::answer::Refusal;
 
 // A refusal's number and its detail.
@@ -56,7 +56,7 @@ pub fn values(count: u64, first: u64, second: u64, third: u64) -> Numbers
 }
 
 pub fn refusal_numbers(r: Refusal) -> Numbers
-    ensures { λ n. ⌜ wordsOf n ≡ answerWords (refusal r) ⌝ }
+    ensures { λ n. ⌜ Encodes n (refusal r) ⌝ }
 {
     let x = number_of(r);
     Numbers {

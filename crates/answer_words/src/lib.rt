@@ -2,8 +2,8 @@
 
 ghost use mathlib.Core.Path.{_≡_};
 ghost use lib.ListN.{set};
-ghost use Rattle.model.specs.Words.{fill};
 ghost use Rattle.answer_numbers.specs.Numbers.{wordsOf};
+ghost use Rattle.answer_words.specs.Told.{Tells};
 use answer_numbers::Numbers;
 
 // Word i of a lent array, where there is one.
@@ -15,9 +15,9 @@ pub fn put(out: &mut [u64], i: usize, x: u64)
     }
 }
 
-// The seven words, as far as they fit.
-pub fn write(out: &mut [u64], n: Numbers)
-    ensures { λ _. ⌜ now (out .exit) ≡ fill (now (out .entry)) 0 (wordsOf n) ⌝ }
+// The seven words, as far as they fit, and the number of the refusal, or 0.
+pub fn tell(out: &mut [u64], n: Numbers) -> u64
+    ensures { λ r. ⌜ Tells (now (out .entry)) (wordsOf n) (now (out .exit)) r ⌝ }
 {
     put(out, 0, n.number);
     put(out, 1, n.count);
@@ -26,4 +26,5 @@ pub fn write(out: &mut [u64], n: Numbers)
     put(out, 4, n.third);
     put(out, 5, n.fourth);
     put(out, 6, n.fifth);
+    n.number
 }

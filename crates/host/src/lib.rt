@@ -2,13 +2,12 @@
 // seven words, as far as they fit, and returns the refusal's number, or 0. docs/HOST.md tells how to call them.
 
 ghost use mathlib.Core.Path.{_≡_};
-ghost use lib.ListN.{getD};
-ghost use Rattle.model.specs.Words.{fill};
 ghost use Rattle.answer_numbers.specs.Numbers.{answerWords};
+ghost use Rattle.answer_words.specs.Told.{Tells};
 ghost use Rattle.host.specs.Served.{append, check, create, destroy, destroyEmpty, find, next, onCursor, onPages, onWalk, onWords, prune, seek, served};
+use answer_changes;
+use answer_reads;
 use answer_words;
-use answers;
-use answers_read;
 use call_release_empty;
 use host_cursor;
 use model::id::PageID;
@@ -25,12 +24,10 @@ pub extern "C" fn row_page_index_create(
     answer: &mut [u64],
 ) -> u64
     ensures words { λ _. ⌜ now (words .exit) ≡ served (onWords (now (words .entry))) (create capacity nodes start) .arrays .words ⌝ }
-    ensures answer { λ _. ⌜ now (answer .exit) ≡ fill (now (answer .entry)) 0 (answerWords (served (onWords (now (words .entry))) (create capacity nodes start) .answer)) ⌝ }
-    ensures number { λ r. ⌜ r ≡ getD (answerWords (served (onWords (now (words .entry))) (create capacity nodes start) .answer)) 0 0 ⌝ }
+    ensures answer { λ r. ⌜ Tells (now (answer .entry)) (answerWords (served (onWords (now (words .entry))) (create capacity nodes start) .answer)) (now (answer .exit)) r ⌝ }
 {
-    let n = answers::created_numbers(call_create::new(words, capacity, nodes, RowID(start)));
-    answer_words::write(answer, n);
-    n.number
+    let n = answer_changes::created_numbers(call_create::new(words, capacity, nodes, RowID(start)));
+    answer_words::tell(answer, n)
 }
 
 // Values: start, end, nodes taken.
@@ -42,23 +39,23 @@ pub extern "C" fn row_page_index_append(
     answer: &mut [u64],
 ) -> u64
     ensures words { λ _. ⌜ now (words .exit) ≡ served (onWords (now (words .entry))) (append count page) .arrays .words ⌝ }
-    ensures answer { λ _. ⌜ now (answer .exit) ≡ fill (now (answer .entry)) 0 (answerWords (served (onWords (now (words .entry))) (append count page) .answer)) ⌝ }
-    ensures number { λ r. ⌜ r ≡ getD (answerWords (served (onWords (now (words .entry))) (append count page) .answer)) 0 0 ⌝ }
+    ensures answer { λ r. ⌜ Tells (now (answer .entry)) (answerWords (served (onWords (now (words .entry))) (append count page) .answer)) (now (answer .exit)) r ⌝ }
 {
-    let n = answers::inserted_numbers(call_append::insert_row_page(words, count, PageID(page)));
-    answer_words::write(answer, n);
-    n.number
+    let n = answer_changes::inserted_numbers(call_append::insert_row_page(
+        words,
+        count,
+        PageID(page),
+    ));
+    answer_words::tell(answer, n)
 }
 
 // One value, the page; or none.
 #[no_mangle]
 pub extern "C" fn row_page_index_find(words: &[u64], row: u64, answer: &mut [u64]) -> u64
-    ensures answer { λ _. ⌜ now (answer .exit) ≡ fill (now (answer .entry)) 0 (answerWords (served (onWords (now (words .entry))) (find row) .answer)) ⌝ }
-    ensures number { λ r. ⌜ r ≡ getD (answerWords (served (onWords (now (words .entry))) (find row) .answer)) 0 0 ⌝ }
+    ensures answer { λ r. ⌜ Tells (now (answer .entry)) (answerWords (served (onWords (now (words .entry))) (find row) .answer)) (now (answer .exit)) r ⌝ }
 {
-    let n = answers_read::location_numbers(call_find::try_find_row(words, RowID(row)));
-    answer_words::write(answer, n);
-    n.number
+    let n = answer_reads::location_numbers(call_find::try_find_row(words, RowID(row)));
+    answer_words::tell(answer, n)
 }
 
 // Values: entries removed, nodes freed, levels collapsed.
@@ -71,17 +68,15 @@ pub extern "C" fn row_page_index_prune(
     answer: &mut [u64],
 ) -> u64
     ensures words { λ _. ⌜ now (words .exit) ≡ served (onWords (now (words .entry))) (prune start end (now (ids .entry))) .arrays .words ⌝ }
-    ensures answer { λ _. ⌜ now (answer .exit) ≡ fill (now (answer .entry)) 0 (answerWords (served (onWords (now (words .entry))) (prune start end (now (ids .entry))) .answer)) ⌝ }
-    ensures number { λ r. ⌜ r ≡ getD (answerWords (served (onWords (now (words .entry))) (prune start end (now (ids .entry))) .answer)) 0 0 ⌝ }
+    ensures answer { λ r. ⌜ Tells (now (answer .entry)) (answerWords (served (onWords (now (words .entry))) (prune start end (now (ids .entry))) .answer)) (now (answer .exit)) r ⌝ }
 {
-    let n = answers::pruned_numbers(call_prune::prune_checkpoint_prefix(
+    let n = answer_changes::pruned_numbers(call_prune::prune_checkpoint_prefix(
         words,
         RowID(start),
         RowID(end),
         ids,
     ));
-    answer_words::write(answer, n);
-    n.number
+    answer_words::tell(answer, n)
 }
 
 // Values: nodes freed, pages. The page ids go into pages.
@@ -94,35 +89,29 @@ pub extern "C" fn row_page_index_destroy(
 ) -> u64
     ensures words { λ _. ⌜ now (words .exit) ≡ served (onPages (now (words .entry)) (now (pages .entry))) (destroy pivot) .arrays .words ⌝ }
     ensures list { λ _. ⌜ now (pages .exit) ≡ served (onPages (now (words .entry)) (now (pages .entry))) (destroy pivot) .arrays .pages ⌝ }
-    ensures answer { λ _. ⌜ now (answer .exit) ≡ fill (now (answer .entry)) 0 (answerWords (served (onPages (now (words .entry)) (now (pages .entry))) (destroy pivot) .answer)) ⌝ }
-    ensures number { λ r. ⌜ r ≡ getD (answerWords (served (onPages (now (words .entry)) (now (pages .entry))) (destroy pivot) .answer)) 0 0 ⌝ }
+    ensures answer { λ r. ⌜ Tells (now (answer .entry)) (answerWords (served (onPages (now (words .entry)) (now (pages .entry))) (destroy pivot) .answer)) (now (answer .exit)) r ⌝ }
 {
-    let n = answers::destroyed_numbers(call_release::destroy(words, RowID(pivot), pages));
-    answer_words::write(answer, n);
-    n.number
+    let n = answer_changes::destroyed_numbers(call_release::destroy(words, RowID(pivot), pages));
+    answer_words::tell(answer, n)
 }
 
 // Values: nodes freed, pages; of an empty store.
 #[no_mangle]
 pub extern "C" fn row_page_index_destroy_empty(words: &mut [u64], answer: &mut [u64]) -> u64
     ensures words { λ _. ⌜ now (words .exit) ≡ served (onWords (now (words .entry))) destroyEmpty .arrays .words ⌝ }
-    ensures answer { λ _. ⌜ now (answer .exit) ≡ fill (now (answer .entry)) 0 (answerWords (served (onWords (now (words .entry))) destroyEmpty .answer)) ⌝ }
-    ensures number { λ r. ⌜ r ≡ getD (answerWords (served (onWords (now (words .entry))) destroyEmpty .answer)) 0 0 ⌝ }
+    ensures answer { λ r. ⌜ Tells (now (answer .entry)) (answerWords (served (onWords (now (words .entry))) destroyEmpty .answer)) (now (answer .exit)) r ⌝ }
 {
-    let n = answers::destroyed_numbers(call_release_empty::destroy_empty(words));
-    answer_words::write(answer, n);
-    n.number
+    let n = answer_changes::destroyed_numbers(call_release_empty::destroy_empty(words));
+    answer_words::tell(answer, n)
 }
 
 // Values: entries, tree nodes, free nodes.
 #[no_mangle]
 pub extern "C" fn row_page_index_check(words: &[u64], answer: &mut [u64]) -> u64
-    ensures answer { λ _. ⌜ now (answer .exit) ≡ fill (now (answer .entry)) 0 (answerWords (served (onWords (now (words .entry))) check .answer)) ⌝ }
-    ensures number { λ r. ⌜ r ≡ getD (answerWords (served (onWords (now (words .entry))) check .answer)) 0 0 ⌝ }
+    ensures answer { λ r. ⌜ Tells (now (answer .entry)) (answerWords (served (onWords (now (words .entry))) check .answer)) (now (answer .exit)) r ⌝ }
 {
-    let n = answers_read::checked_numbers(call_check::full_check(words));
-    answer_words::write(answer, n);
-    n.number
+    let n = answer_reads::checked_numbers(call_check::full_check(words));
+    answer_words::tell(answer, n)
 }
 
 // Keeps a row.
@@ -144,14 +133,12 @@ pub extern "C" fn row_page_index_next(
 ) -> u64
     ensures cursor { λ _. ⌜ now (cursor .exit) ≡ served (onWalk (now (words .entry)) (now (cursor .entry)) (now (records .entry))) next .arrays .cursor ⌝ }
     ensures records { λ _. ⌜ now (records .exit) ≡ served (onWalk (now (words .entry)) (now (cursor .entry)) (now (records .entry))) next .arrays .records ⌝ }
-    ensures answer { λ _. ⌜ now (answer .exit) ≡ fill (now (answer .entry)) 0 (answerWords (served (onWalk (now (words .entry)) (now (cursor .entry)) (now (records .entry))) next .answer)) ⌝ }
-    ensures number { λ r. ⌜ r ≡ getD (answerWords (served (onWalk (now (words .entry)) (now (cursor .entry)) (now (records .entry))) next .answer)) 0 0 ⌝ }
+    ensures answer { λ r. ⌜ Tells (now (answer .entry)) (answerWords (served (onWalk (now (words .entry)) (now (cursor .entry)) (now (records .entry))) next .answer)) (now (answer .exit)) r ⌝ }
 {
     let step = next_words::next_words(words, host_cursor::cursor_in(&cursor[..]), records);
     let after = step.cursor;
     let given = step.answer;
     host_cursor::cursor_out(cursor, after, given);
-    let n = answers_read::next_leaf_numbers(given);
-    answer_words::write(answer, n);
-    n.number
+    let n = answer_reads::next_leaf_numbers(given);
+    answer_words::tell(answer, n)
 }

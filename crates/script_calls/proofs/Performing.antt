@@ -18,8 +18,8 @@ use Rattle.model.specs.Release.{destroy}
 use Rattle.model.proofs.Tests.{and-r, by-test, holds}
 use Rattle.script_text.specs.Lines.{line, Puts}
 use Rattle.script_records.specs.Records.{Call, Create, Append, Find, Prune, Walk, Release, Bad}
-use Rattle.lines.specs.Names.{createName, appendName, pruneName, releaseName, badRecordName}
-use Rattle.lines.specs.Answers.{answerLine, findLine}
+use Rattle.answer_line.specs.Names.{createName, appendName, pruneName, releaseName, badRecordName}
+use Rattle.answer_line.specs.Answers.{callLine, findLine}
 use Rattle.script_calls.specs.Calls.{lentPages, walkLines, createLength, ifAccepted, perform}
 use Rattle.script_calls.specs.Steps.{memory, Does}
 use Rattle.script_calls.specs.declared.Progress.{Progress}
@@ -49,12 +49,12 @@ module _ (all C P : ℕ) where
 -- Calls -----------------------------------------------------------------------------------------------------
 
 module _ (w out : List ℕ) (u at : ℕ) (a : Answer) (v out₁ : List ℕ) (place : ℕ) where
-  pub creates : (C P s len used₁ : ℕ) → len ≡ createLength (length w) C P → a ≡ create lent (take len w) C P s .answer → v ≡ create lent (take len w) C P s .words → used₁ ≡ ifAccepted a len u → Puts out at (answerLine createName a) out₁ place → Does (perform (memory w u) (Create C P s)) out at (v ++ drop len w) out₁ (record { used = used₁; at = place; goes = true })
+  pub creates : (C P s len used₁ : ℕ) → len ≡ createLength (length w) C P → a ≡ create lent (take len w) C P s .answer → v ≡ create lent (take len w) C P s .words → used₁ ≡ ifAccepted a len u → Puts out at (callLine createName a) out₁ place → Does (perform (memory w u) (Create C P s)) out at (v ++ drop len w) out₁ (record { used = used₁; at = place; goes = true })
   unfolding perform
   creates C P s len used₁ is e f g p =
       record { words = rw (f, is); used = rw (g, e, is); goes = refl; puts = rw (e, is) at p }
 
-  pub appends : (k x : ℕ) → a ≡ insertRowPage lent (take u w) k x .answer → v ≡ insertRowPage lent (take u w) k x .words → Puts out at (answerLine appendName a) out₁ place → Does (perform (memory w u) (Append k x)) out at (v ++ drop u w) out₁ (record { used = u; at = place; goes = true })
+  pub appends : (k x : ℕ) → a ≡ insertRowPage lent (take u w) k x .answer → v ≡ insertRowPage lent (take u w) k x .words → Puts out at (callLine appendName a) out₁ place → Does (perform (memory w u) (Append k x)) out at (v ++ drop u w) out₁ (record { used = u; at = place; goes = true })
   unfolding perform
   appends k x e f p = record { words = rw f; used = refl; goes = refl; puts = rw e at p }
 
@@ -62,11 +62,11 @@ module _ (w out : List ℕ) (u at : ℕ) (a : Answer) (v out₁ : List ℕ) (pla
   unfolding perform
   finds q e p = record { words = refl; used = refl; goes = refl; puts = rw e at p }
 
-  pub prunes : (s e₀ : ℕ) (ids : List ℕ) → a ≡ pruneCheckpointPrefix lent (take u w) s e₀ ids .answer → v ≡ pruneCheckpointPrefix lent (take u w) s e₀ ids .words → Puts out at (answerLine pruneName a) out₁ place → Does (perform (memory w u) (Prune s e₀ ids)) out at (v ++ drop u w) out₁ (record { used = u; at = place; goes = true })
+  pub prunes : (s e₀ : ℕ) (ids : List ℕ) → a ≡ pruneCheckpointPrefix lent (take u w) s e₀ ids .answer → v ≡ pruneCheckpointPrefix lent (take u w) s e₀ ids .words → Puts out at (callLine pruneName a) out₁ place → Does (perform (memory w u) (Prune s e₀ ids)) out at (v ++ drop u w) out₁ (record { used = u; at = place; goes = true })
   unfolding perform
   prunes s e₀ ids e f p = record { words = rw f; used = refl; goes = refl; puts = rw e at p }
 
-  pub releases : (q : ℕ) → a ≡ destroy lent (take u w) q lentPages .answer → v ≡ destroy lent (take u w) q lentPages .words → Puts out at (answerLine releaseName a) out₁ place → Does (perform (memory w u) (Release q)) out at (v ++ drop u w) out₁ (record { used = u; at = place; goes = true })
+  pub releases : (q : ℕ) → a ≡ destroy lent (take u w) q lentPages .answer → v ≡ destroy lent (take u w) q lentPages .words → Puts out at (callLine releaseName a) out₁ place → Does (perform (memory w u) (Release q)) out at (v ++ drop u w) out₁ (record { used = u; at = place; goes = true })
   unfolding perform
   releases q e f p = record { words = rw f; used = refl; goes = refl; puts = rw e at p }
 

@@ -16,8 +16,8 @@ use Rattle.model.specs.declared.node.PageEntry.{PageEntry}
 use Rattle.model.specs.declared.cursor.RowPageIndexMemCursor.{RowPageIndexMemCursor}
 use Rattle.script_text.specs.Lines.{line}
 use Rattle.script_records.specs.Records.{Call, Create, Append, Find, Prune, Walk, Release, Bad}
-use Rattle.lines.specs.Answers.{answerLine, findLine, leafLines}
-use Rattle.lines.specs.Names.{createName, appendName, pruneName, releaseName, badRecordName}
+use Rattle.answer_line.specs.Answers.{callLine, findLine, leafLines}
+use Rattle.answer_line.specs.Names.{createName, appendName, pruneName, releaseName, badRecordName}
 
 -- Walks -------------------------------------------------------------------------------------------------
 
@@ -81,19 +81,19 @@ perform m (Create C P s) =
     let n = createLength (length (m .words)) C P in
     let o = create lent (take n (m .words)) C P s in
     record {
-      lines = answerLine createName (o .answer);
+      lines = callLine createName (o .answer);
       memory = record { words = overlaid n (o .words) (m .words); used = ifAccepted (o .answer) n (m .used) };
       goes = true;
     }
 perform m (Append k x) =
-    let o = insertRowPage lent (take (m .used) (m .words)) k x in leaving m (answerLine appendName (o .answer)) (o .words)
+    let o = insertRowPage lent (take (m .used) (m .words)) k x in leaving m (callLine appendName (o .answer)) (o .words)
 perform m (Find q) = reading m (findLine (tryFindRow lent (take (m .used) (m .words)) q))
 perform m (Prune s e ids) =
     let o = pruneCheckpointPrefix lent (take (m .used) (m .words)) s e ids in
-    leaving m (answerLine pruneName (o .answer)) (o .words)
+    leaving m (callLine pruneName (o .answer)) (o .words)
 perform m (Walk q) = let w = take (m .used) (m .words) in reading m (walkLines w (length w + 1) (seek q))
 perform m (Release v) =
     let o = destroy lent (take (m .used) (m .words)) v lentPages in
-    leaving m (answerLine releaseName (o .answer)) (o .words)
+    leaving m (callLine releaseName (o .answer)) (o .words)
 -- "prints `bad record` and ends without the `free` line"
 perform m Bad = record { lines = line badRecordName []; memory = m; goes = false }

@@ -2,9 +2,7 @@
 use Prim.Native.Nat.{ℕ, _+_}
 use mathlib.Core.List.{List, []}
 use mathlib.Core.Path.{_≡_}
-use Rattle.model.specs.LeafWalk.{Stepped, givesLeaf}
 use Rattle.script_text.specs.Lines.{Puts}
-use Rattle.lines.specs.Answers.{leafLines}
 use Rattle.script_calls.specs.Calls.{Memory, Performed}
 use Rattle.script_calls.specs.declared.Progress.{Progress}
 

@@ -6,7 +6,7 @@ ghost use mathlib.Core.List.{[]};
 ghost use Prim.Native.Nat.{_≤_};
 ghost use lib.ListN.{length};
 ghost use Rattle.script_text.specs.Lines.{Puts, line};
-ghost use Rattle.lines.specs.Names.{badRecordName};
+ghost use Rattle.answer_line.specs.Names.{badRecordName};
 ghost use Rattle.script_records.specs.Records as R;
 ghost use Rattle.script_calls.specs.Calls.{perform};
 ghost use Rattle.script_calls.specs.Steps.{Does, memory};
@@ -32,7 +32,8 @@ pub fn append_step(
     ensures { λ r. ⌜ Does (perform (memory (now (s .entry)) used) (R.Append count page)) (now (out .entry)) at (now (s .exit)) (now (out .exit)) r ⌝ }
 {
     let a = call_append::insert_row_page(&mut s[..used], count, PageID(page));
-    let place = lines::put_inserted(out, at, a);
+    let n = answer_changes::inserted_numbers(a);
+    let place = answer_line::put_answer(out, at, b"append", b"append", n);
     Progress {
         used,
         at: place,
@@ -45,7 +46,8 @@ pub fn find_step(s: &[u64], used: usize, row: u64, out: &mut [u8], at: usize) ->
     ensures { λ r. ⌜ Does (perform (memory (now (s .entry)) used) (R.Find row)) (now (out .entry)) at (now (s .entry)) (now (out .exit)) r ⌝ }
 {
     let a = call_find::try_find_row(&s[..used], RowID(row));
-    let place = lines::put_location(out, at, a);
+    let n = answer_reads::location_numbers(a);
+    let place = answer_line::put_answer(out, at, b"page", b"none", n);
     Progress {
         used,
         at: place,
@@ -59,7 +61,8 @@ pub fn release_step(s: &mut [u64], used: usize, pivot: u64, out: &mut [u8], at: 
 {
     let mut pages = [0u64; 2048];
     let a = call_release::destroy(&mut s[..used], RowID(pivot), &mut pages);
-    let place = lines::put_destroyed(out, at, a);
+    let n = answer_changes::destroyed_numbers(a);
+    let place = answer_line::put_answer(out, at, b"release", b"release", n);
     Progress {
         used,
         at: place,

@@ -2,11 +2,11 @@
 
 ghost use mathlib.Core.Path.{_≡_};
 ghost use lib.ListN.{length};
-ghost use Rattle.model.specs.Refusals.{created};
+ghost use Rattle.answer_numbers.specs.Numbers.{answerOf};
 ghost use Rattle.script_records.specs.Records as R;
 ghost use Rattle.script_calls.specs.Calls.{createLength, ifAccepted, perform};
 ghost use Rattle.script_calls.specs.Steps.{Does, memory};
-use model::answer::Created;
+use answer_numbers::Numbers;
 use model::id::RowID;
 use node_read::layout::Layout;
 use script_calls::Progress;
@@ -31,13 +31,13 @@ pub fn create_length(all: usize, capacity: u64, nodes: u64) -> usize
 }
 
 // The length that later calls get: of an accepted create, else the former one.
-fn used_after(a: Created, len: usize, used: usize) -> usize
-    ensures { λ r. ⌜ r ≡ ifAccepted (created a) len used ⌝ }
+fn used_after(n: Numbers, len: usize, used: usize) -> usize
+    ensures { λ r. ⌜ r ≡ ifAccepted (answerOf n) len used ⌝ }
 {
-    match a {
-        Created::Done => len,
-        Created::Refused(_) => used,
+    if n.number != 0 {
+        return used;
     }
+    len
 }
 
 pub fn create_step(
@@ -53,9 +53,10 @@ pub fn create_step(
 {
     let len = create_length(s.len(), capacity, nodes);
     let a = call_create::new(&mut s[..len], capacity, nodes, RowID(start));
-    let place = lines::put_created(out, at, a);
+    let n = answer_changes::created_numbers(a);
+    let place = answer_line::put_answer(out, at, b"create", b"create", n);
     Progress {
-        used: used_after(a, len, used),
+        used: used_after(n, len, used),
         at: place,
         goes: true,
     }

@@ -4,7 +4,7 @@ use mathlib.Core.List.{List, [], _∷_, _++_, map}
 use lib.ListN.{length}
 use Rattle.model.specs.Words.{NONE}
 use Rattle.script_text.specs.Lines.{line}
-use Rattle.lines.specs.Names.{createName, appendName, pageName, noneName, pruneName, leafName, endName, releaseName, noName, freeName, badRecordName}
+use Rattle.answer_line.specs.Names.{createName, appendName, pageName, noneName, pruneName, leafName, endName, releaseName, noName, freeName, badRecordName}
 
 -- k bytes of n, little-endian
 unfoldable pub bytes : ℕ → ℕ → List ℕ

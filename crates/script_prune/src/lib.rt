@@ -30,7 +30,8 @@ pub fn prune_step(
         RowID(end),
         &ids[..k],
     );
-    let place = lines::put_pruned(out, at, a);
+    let n = answer_changes::pruned_numbers(a);
+    let place = answer_line::put_answer(out, at, b"prune", b"prune", n);
     Progress {
         used,
         at: place,

@@ -16,7 +16,7 @@ use Rattle.script_records.specs.Records.{Call, Create, Append, Find, Prune, Wal
 use Rattle.script_records.specs.Read.{headOf}
 use Rattle.script_records.specs.declared.Head.the-variants as H
 use Rattle.script_records.proofs.Heads.{within, wholly, badly}
-use Rattle.lines.specs.Names.{freeName}
+use Rattle.answer_line.specs.Names.{freeName}
 use Rattle.script_calls.specs.Calls.{Memory, perform}
 use Rattle.script_walk.proofs.Short.{line-short, short}
 use Rattle.script_step.specs.Script.{listingFrom, listingOf, turn}

@@ -6,7 +6,7 @@ use lib.ListN.{length, drop}
 use Rattle.model.specs.Words.{pick, freeCount}
 use Rattle.script_text.specs.Lines.{line}
 use Rattle.script_records.specs.Records.{bodyLength, first}
-use Rattle.lines.specs.Names.{freeName}
+use Rattle.answer_line.specs.Names.{freeName}
 use Rattle.script_calls.specs.Calls.{Memory, zeros, Performed, perform}
 
 -- "last `free` and word 4"

@@ -5,7 +5,7 @@ ghost use Prim.Native.Nat.{_+_, _≤_};
 ghost use lib.ListN.{length};
 ghost use Rattle.model.specs.Words.{freeCount};
 ghost use Rattle.script_text.specs.Lines.{Puts, line};
-ghost use Rattle.lines.specs.Names.{freeName};
+ghost use Rattle.answer_line.specs.Names.{freeName};
 ghost use Rattle.script_records.specs.Records.{first};
 ghost use Rattle.script_records.specs.Read.{meant};
 ghost use Rattle.script_calls.specs.Calls.{perform};

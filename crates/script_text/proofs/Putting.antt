@@ -1,7 +1,7 @@
 -- Bytes put one after the other.
 use Prim.Native.Nat.{ℕ, zero, suc, _+_, _-_, _^_, _≤_, _<_, min}
 use mathlib.Core.Path.{_≡_, refl, sym, _∙_, ap}
-use mathlib.Core.List.{List, [], _∷_, _++_, append-assoc}
+use mathlib.Core.List.{List, [], _∷_, _++_, append-assoc, append-nil}
 use native.Mathlib.Omega.{arith, min-cases}
 use native.Mathlib.Nat.{add-zero}
 use native.Mathlib.Numerals.{add-one}
@@ -53,11 +53,20 @@ one-more bs i h t p q = rw (add-one i, take-suc bs i 0 t) (joins h p q)
 pub same : {o o₁ : List ℕ} {at r : ℕ} {xs : List ℕ} → Puts o at xs o₁ r → length o₁ ≡ length o
 same {o} {o₁} {at} {r} {xs} p = ap length (p .is) ∙ length-fill o at xs
 
--- a number after a space, before the rest of a line
-pub number-first : {o o₁ o₂ : List ℕ} {at r₁ r₂ : ℕ} (a : ℕ) (vs : List ℕ) → length o < 2 ^ 64 → Puts o at (space ∷ decimal a) o₁ r₁ → Puts o₁ r₁ (numbers vs ++ (newline ∷ [])) o₂ r₂ → Puts o at (numbers (a ∷ vs) ++ (newline ∷ [])) o₂ r₂
+numbers-append : (xs ys : List ℕ) → numbers (xs ++ ys) ≡ numbers xs ++ numbers ys
 unfolding numbers
-number-first a vs h p q = rw (append-assoc (decimal a) (numbers vs) (newline ∷ [])) (joins h p q)
+numbers-append [] ys = refl
+numbers-append (x ∷ xs) ys = rw (numbers-append xs ys, append-assoc (decimal x) (numbers xs) (numbers ys))
 
-pub word-first : {o o₁ o₂ : List ℕ} {at r₁ r₂ : ℕ} (word vs : List ℕ) → length o < 2 ^ 64 → Puts o at word o₁ r₁ → Puts o₁ r₁ (numbers vs ++ (newline ∷ [])) o₂ r₂ → Puts o at (line word vs) o₂ r₂
+number-alone : (v : ℕ) → numbers (v ∷ []) ≡ space ∷ decimal v
+unfolding numbers
+number-alone v = rw append-nil
+
+-- numbers put one by one
+pub number-more : {o o₁ o₂ : List ℕ} {at r₁ r₂ : ℕ} (vs : List ℕ) (i : ℕ) → length o < 2 ^ 64 → i < length vs → Puts o at (numbers (take i vs)) o₁ r₁ → Puts o₁ r₁ (space ∷ decimal (getD vs i 0)) o₂ r₂ → Puts o at (numbers (take (i + 1) vs)) o₂ r₂
+number-more vs i h t p q =
+    rw (add-one i, take-suc vs i 0 t, numbers-append (take i vs) (getD vs i 0 ∷ []), number-alone (getD vs i 0)) (joins h p q)
+
+pub line-put : {o o₁ o₂ o₃ : List ℕ} {at r₁ r₂ r₃ : ℕ} (word vs : List ℕ) → length o < 2 ^ 64 → Puts o at word o₁ r₁ → Puts o₁ r₁ (numbers vs) o₂ r₂ → Puts o₂ r₂ (newline ∷ []) o₃ r₃ → Puts o at (line word vs) o₃ r₃
 unfolding line
-word-first word vs h p q = joins h p q
+line-put word vs h p q s = joins h p (joins (omega (arith, same p)) q s)

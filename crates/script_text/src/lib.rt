@@ -2,7 +2,7 @@
 // did not fit too.
 
 ghost use mathlib.Core.Path.{_≡_};
-ghost use mathlib.Core.List.{[], _∷_, _++_};
+ghost use mathlib.Core.List.{[], _∷_};
 ghost use Prim.Native.Nat.{_+_};
 ghost use lib.ListN.{length};
 ghost use Rattle.model.specs.Words.{fill};
@@ -51,59 +51,39 @@ pub fn put_number(out: &mut [u8], at: usize, n: u64) -> usize
     put_decimal(out, place, n)
 }
 
-// The rest of a line after its word, by how many numbers it has.
-fn end_line(out: &mut [u8], at: usize) -> usize
-    ensures { λ r. ⌜ Puts (now (out .entry)) at (numbers [] ++ (newline ∷ [])) (now (out .exit)) r ⌝ }
+// Each of these numbers after a space.
+pub fn put_numbers(out: &mut [u8], at: usize, list: &[u64]) -> usize
+    ensures { λ r. ⌜ Puts (now (out .entry)) at (numbers (now (list .entry))) (now (out .exit)) r ⌝ }
 {
-    put_byte(out, at, b'\n')
+    let mut place = at;
+    let mut i: usize = 0;
+    while i < list.len() {
+        place = put_number(out, place, list[i]);
+        i += 1;
+    }
+    place
 }
 
-fn end_line1(out: &mut [u8], at: usize, a: u64) -> usize
-    ensures { λ r. ⌜ Puts (now (out .entry)) at (numbers (a ∷ []) ++ (newline ∷ [])) (now (out .exit)) r ⌝ }
+// A line of a word and these numbers.
+pub fn put_line_with(out: &mut [u8], at: usize, word: &[u8], list: &[u64]) -> usize
+    ensures { λ r. ⌜ Puts (now (out .entry)) at (line (now (word .entry)) (now (list .entry))) (now (out .exit)) r ⌝ }
 {
-    let place = put_number(out, at, a);
-    end_line(out, place)
+    let place = put_bytes(out, at, word);
+    let place = put_numbers(out, place, list);
+    put_byte(out, place, b'\n')
 }
 
-fn end_line2(out: &mut [u8], at: usize, a: u64, b: u64) -> usize
-    ensures { λ r. ⌜ Puts (now (out .entry)) at (numbers (a ∷ b ∷ []) ++ (newline ∷ [])) (now (out .exit)) r ⌝ }
-{
-    let place = put_number(out, at, a);
-    end_line1(out, place, b)
-}
-
-fn end_line3(out: &mut [u8], at: usize, a: u64, b: u64, c: u64) -> usize
-    ensures { λ r. ⌜ Puts (now (out .entry)) at (numbers (a ∷ b ∷ c ∷ []) ++ (newline ∷ [])) (now (out .exit)) r ⌝ }
-{
-    let place = put_number(out, at, a);
-    end_line2(out, place, b, c)
-}
-
-// A line of a word alone, and with one, two, three numbers.
+// A line of a word alone, and with one number.
 pub fn put_line(out: &mut [u8], at: usize, word: &[u8]) -> usize
     ensures { λ r. ⌜ Puts (now (out .entry)) at (line (now (word .entry)) []) (now (out .exit)) r ⌝ }
 {
     let place = put_bytes(out, at, word);
-    end_line(out, place)
+    put_byte(out, place, b'\n')
 }
 
 pub fn put_line1(out: &mut [u8], at: usize, word: &[u8], a: u64) -> usize
     ensures { λ r. ⌜ Puts (now (out .entry)) at (line (now (word .entry)) (a ∷ [])) (now (out .exit)) r ⌝ }
 {
-    let place = put_bytes(out, at, word);
-    end_line1(out, place, a)
-}
-
-pub fn put_line2(out: &mut [u8], at: usize, word: &[u8], a: u64, b: u64) -> usize
-    ensures { λ r. ⌜ Puts (now (out .entry)) at (line (now (word .entry)) (a ∷ b ∷ [])) (now (out .exit)) r ⌝ }
-{
-    let place = put_bytes(out, at, word);
-    end_line2(out, place, a, b)
-}
-
-pub fn put_line3(out: &mut [u8], at: usize, word: &[u8], a: u64, b: u64, c: u64) -> usize
-    ensures { λ r. ⌜ Puts (now (out .entry)) at (line (now (word .entry)) (a ∷ b ∷ c ∷ [])) (now (out .exit)) r ⌝ }
-{
-    let place = put_bytes(out, at, word);
-    end_line3(out, place, a, b, c)
+    let list = [a];
+    put_line_with(out, at, word, &list)
 }

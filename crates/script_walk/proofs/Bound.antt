@@ -20,11 +20,11 @@ use Rattle.model.proofs.Words.{nodes-few}
 use Rattle.model.proofs.Header.{header-of}
 use Rattle.model.proofs.Tests.{by-test, holds}
 use Rattle.script_text.specs.Lines.{Puts}
-use Rattle.lines.specs.Answers.{leafLines}
+use Rattle.answer_line.specs.Answers.{leafLines}
 use Rattle.script_calls.specs.Calls.{lentRecords, walkLines}
 use Rattle.script_walk.specs.Walked.{Walks}
 use Rattle.script_walk.specs.declared.WalkStep.{WalkStep}
-use Rattle.script_walk.proofs.Walking.{leaf-last, walks-on, walks-out}
+use Rattle.script_walk.proofs.Walking.{walks-on, walks-out}
 
 differ : {A : Type 0} → false ≡ true → A
 differ e = let z : _≡_ {A = ℕ} 0 1 = cc in absurd (omega arith)
@@ -175,8 +175,8 @@ enough w (suc j) zero c h l = absurd (omega (arith, left-some w c))
 enough w (suc j) (suc k) c h l =
     let s = nextLeafOf lent w c lentRecords in
     by-test (givesLeaf (s .answer))
-    (λ t. let f = falls w c lentRecords t in ap (leafLines (s .answer)) (enough w j k (s .cursor) (omega arith) (omega arith)))
-    (λ t. leaf-last (s .answer) (walkLines w j (s .cursor)) t ∙ sym (leaf-last (s .answer) (walkLines w k (s .cursor)) t))
+    (λ t. let f = falls w c lentRecords t in ap (λ (more : List ℕ). leafLines (s .answer) more) (enough w j k (s .cursor) (omega arith) (omega arith)))
+    (λ t. rw t)
 
 -- A turn of a walk ----------------------------------------------------------------------------------------
 

@@ -25,10 +25,9 @@ use Rattle.model.proofs.Words.{nodes-few}
 use Rattle.model.proofs.Header.{header-of}
 use Rattle.script_text.specs.Lines.{digitsOf, decimal, numbers, line, digit}
 use Rattle.script_records.specs.Records.{Call, Create, Append, Find, Prune, Walk, Release, Bad}
-use Rattle.lines.specs.Names.{createName, appendName, pageName, noneName, pruneName, leafName, endName, releaseName, noName, badRecordName}
-use Rattle.lines.specs.Answers.{answerLine, findLine, leafLines}
+use Rattle.answer_line.specs.Names.{createName, appendName, pageName, noneName, pruneName, leafName, endName, releaseName, noName, badRecordName}
+use Rattle.answer_line.specs.Answers.{answerLine, leafLine}
 use Rattle.script_calls.specs.Calls.{lentRecords, lentPages, walkLines, Memory, createLength, perform}
-use Rattle.script_walk.proofs.Walking.{leaf-last}
 use Rattle.script_walk.proofs.Bound.{left, left-some, above-few, falls}
 
 -- Lines --------------------------------------------------------------------------------------------------
@@ -192,35 +191,28 @@ next-few w c l =
     (λ t₁. rw t₁ (omega arith))
 
 -- the longest name has seven letters
-answer-short : (name : List ℕ) (a : Answer) → length name ≤ 7 → few a → length (answerLine name a) ≤ 65536
+answer-short : (given none : List ℕ) (a : Answer) → length given ≤ 7 → length none ≤ 7 → few a → length (answerLine given none a) ≤ 71
 unfolding answerLine
-answer-short name (result vs) h f = omega (arith, line-short name vs)
-answer-short name (refused x d) h f = omega (arith, line-short noName (x ∷ d ∷ []))
+answer-short given none (result []) g z f = omega (arith, line-short none [])
+answer-short given none (result (v ∷ vs)) g z f = omega (arith, line-short given (v ∷ vs))
+answer-short given none (refused x d) g z f = omega (arith, line-short noName (x ∷ d ∷ []))
 
-find-short : (a : Answer) → few a → length (findLine a) ≤ 65536
-unfolding findLine
-find-short (result []) f = omega (arith, line-short noneName [])
-find-short (result (x ∷ xs)) f = omega (arith, line-short pageName (x ∷ xs))
-find-short (refused x d) f = omega (arith, line-short noName (x ∷ d ∷ []))
+answer-fits : (given none : List ℕ) (a : Answer) → length given ≤ 7 → length none ≤ 7 → few a → length (answerLine given none a) ≤ 65536
+answer-fits given none a g z f = omega (arith, answer-short given none a g z f)
 
 -- Walks ----------------------------------------------------------------------------------------------------
 
-leaf-short : (a : Answer) (more : List ℕ) → few a → length (leafLines a more) ≤ 68 + length more
-unfolding leafLines
-leaf-short (result []) more f = omega (arith, line-short endName [])
-leaf-short (result (x ∷ xs)) more f = omega (arith, length-append (line leafName (x ∷ xs)) more, line-short leafName (x ∷ xs))
-leaf-short (refused x d) more f = omega (arith, line-short noName (x ∷ d ∷ []))
-
 -- a line for each step that is left
-walk-lines : (w : List ℕ) (k : ℕ) (c : RowPageIndexMemCursor) → length (walkLines w k c) ≤ 68 * left w c
+walk-lines : (w : List ℕ) (k : ℕ) (c : RowPageIndexMemCursor) → length (walkLines w k c) ≤ 71 * left w c
 unfolding walkLines
 walk-lines w zero c = omega arith
 walk-lines w (suc k) c =
     let s = nextLeafOf lent w c lentRecords in
     let f = next-few w c lentRecords in
+    let short = answer-short leafName endName (s .answer) (omega arith) (omega arith) f in
     by-test (givesLeaf (s .answer))
-    (λ t. omega (arith, leaf-short (s .answer) (walkLines w k (s .cursor)) f, walk-lines w k (s .cursor), falls w c lentRecords t))
-    (λ t. rw (leaf-last (s .answer) (walkLines w k (s .cursor)) t) (omega (arith, leaf-short (s .answer) [] f, left-some w c)))
+    (λ t. rw t (omega (arith, length-append (leafLine (s .answer)) (walkLines w k (s .cursor)), walk-lines w k (s .cursor), falls w c lentRecords t)))
+    (λ t. rw t (omega (arith, length-append (leafLine (s .answer)) [], left-some w c)))
 
 pool-small : (w : List ℕ) → length w ≤ 4096 → headerOk w ≡ true → pool w ≤ 511
 pool-small w h t =
@@ -246,10 +238,10 @@ module _ (m : Memory) (small : length (m .words) ≤ 4096) where
 
   pub short : (c : Call) → length (perform m c .lines) ≤ 65536
   unfolding perform
-  short (Create C P s) = answer-short createName _ (omega arith) (create-few (take (createLength (length (m .words)) C P) (m .words)) C P s)
-  short (Append k x) = answer-short appendName _ (omega arith) (append-few (take (m .used) (m .words)) k x)
-  short (Find q) = find-short _ (find-few (take (m .used) (m .words)) q)
-  short (Prune s e ids) = answer-short pruneName _ (omega arith) (prune-few (take (m .used) (m .words)) s e ids)
+  short (Create C P s) = answer-fits createName createName _ (omega arith) (omega arith) (create-few (take (createLength (length (m .words)) C P) (m .words)) C P s)
+  short (Append k x) = answer-fits appendName appendName _ (omega arith) (omega arith) (append-few (take (m .used) (m .words)) k x)
+  short (Find q) = answer-fits pageName noneName _ (omega arith) (omega arith) (find-few (take (m .used) (m .words)) q)
+  short (Prune s e ids) = answer-fits pruneName pruneName _ (omega arith) (omega arith) (prune-few (take (m .used) (m .words)) s e ids)
   short (Walk q) = walk-short (take (m .used) (m .words)) _ (seek q) part-small
-  short (Release v) = answer-short releaseName _ (omega arith) (release-few (take (m .used) (m .words)) v lentPages)
+  short (Release v) = answer-fits releaseName releaseName _ (omega arith) (omega arith) (release-few (take (m .used) (m .words)) v lentPages)
   short Bad = omega (arith, line-short badRecordName [])

@@ -34,7 +34,8 @@ fn walk_once(
     let step = next_words::next_words(s, cursor, list);
     let answer = step.answer;
     let next = step.cursor;
-    let place = lines::put_next(out, at, answer);
+    let n = answer_reads::next_leaf_numbers(answer);
+    let place = answer_line::put_answer(out, at, b"leaf", b"end", n);
     WalkStep {
         cursor: next,
         at: place,

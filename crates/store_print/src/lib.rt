@@ -27,20 +27,18 @@ pub fn room(out: &[u8], at: usize) -> usize {
 }
 
 pub fn put_refusal(out: &mut [u8], at: usize, r: Refusal) -> usize {
-    let n = answer_numbers::number_of(r);
-    script_text::put_line2(out, at, b"no", n.0, n.1)
+    answer_line::put_answer(out, at, b"no", b"no", answer_numbers::refusal_numbers(r))
 }
 
 // The full check's line.
 pub fn put_checked(out: &mut [u8], at: usize, a: Checked) -> usize {
-    match a {
-        Checked::WellFormed {
-            entries,
-            nodes,
-            free,
-        } => script_text::put_line3(out, at, b"check", entries, nodes, free),
-        Checked::Refused(r) => put_refusal(out, at, r),
-    }
+    answer_line::put_answer(
+        out,
+        at,
+        b"check",
+        b"check",
+        answer_reads::checked_numbers(a),
+    )
 }
 
 // The rest of a line: these numbers.

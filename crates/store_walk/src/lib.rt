@@ -1,8 +1,9 @@
 // The leaf walk of the store program: the cursor and a list of records are lent by `&mut`.
 
 ghost use Prim.Native.Nat.{_≤_};
-use lines;
-use model::answer::NextLeaf;
+use answer_line;
+use answer_numbers::Numbers;
+use answer_reads;
 use model::cursor::RowPageIndexMemCursor;
 use model::id::PageID;
 use model::id::RowID;
@@ -30,24 +31,25 @@ pub fn seek(cursor: RowPageIndexMemCursor, row: u64) -> RowPageIndexMemCursor {
     next_lent::seek_on(cursor, RowID(row))
 }
 
-fn is_leaf(a: NextLeaf) -> bool {
-    match a {
-        NextLeaf::Found(_) => true,
-        NextLeaf::Done => false,
-        NextLeaf::Refused(_) => false,
-    }
+fn is_leaf(answer: Numbers) -> bool {
+    answer.number == 0 && answer.count != 0
 }
 
 // The entries that a step gave, where they are shown.
-fn put_list(out: &mut [u8], at: usize, shows: bool, a: NextLeaf, list: [PageEntry; 4094]) -> usize {
+fn put_list(
+    out: &mut [u8],
+    at: usize,
+    shows: bool,
+    answer: Numbers,
+    list: [PageEntry; 4094],
+) -> usize {
     if !shows {
         return at;
     }
-    match a {
-        NextLeaf::Found(leaf) => store_print::put_entries(out, at, list, leaf.count),
-        NextLeaf::Done => at,
-        NextLeaf::Refused(_) => at,
+    if !is_leaf(answer) {
+        return at;
     }
+    store_print::put_entries(out, at, list, answer.third)
 }
 
 // A step on a list of so many records, and its lines: those of the entries where they are shown.
@@ -64,11 +66,12 @@ pub fn next(
         page_id: PageID(0),
     }; 4094];
     let step = next_lent::next_on(s, cursor, records, at_most(len));
-    let answer = step.answer;
+    let given = step.answer;
+    let answer = answer_reads::next_leaf_numbers(given);
     let after = step.cursor;
     let list = step.list;
     let place = store_print::room(out, at);
-    let place = lines::put_next(out, place, answer);
+    let place = answer_line::put_answer(out, place, b"leaf", b"end", answer);
     let place = put_list(out, place, shows, answer, list);
     Stepped {
         cursor: after,
@@ -94,10 +97,13 @@ pub fn walk(s: &[u64], row: u64, len: usize, out: &mut [u8], at: usize) -> usize
     place
 }
 
+fn flag(b: bool) -> u64 {
+    if b { 1 } else { 0 }
+}
+
 // The cursor's row, and 1 where it is done.
 pub fn put_cursor(out: &mut [u8], at: usize, c: RowPageIndexMemCursor) -> usize {
-    if c.done {
-        return script_text::put_line2(out, at, b"cursor", c.row_id.0, 1);
-    }
-    script_text::put_line2(out, at, b"cursor", c.row_id.0, 0)
+    let row = c.row_id;
+    let words = [row.0, flag(c.done)];
+    script_text::put_line_with(out, at, b"cursor", &words)
 }

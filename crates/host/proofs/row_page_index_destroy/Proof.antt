@@ -1,10 +1,5 @@
 use borrow.Author.Needs.{needs}
-use Prim.Native.Nat.{ℕ}
-use mathlib.Core.List.{List}
-use mathlib.Core.Path.{ap, _∙_}
-use lib.ListN.{getD}
-use Rattle.model.specs.Words.{fill}
-use Rattle.answer_numbers.specs.Numbers.{answerWords}
+use Rattle.answer_words.proofs.Telling.{told}
 use Rattle.host.proofs.row_page_index_destroy.Statement.{statement}
 use Rattle.host.proofs.row_page_index_destroy.Tie as tie
 
@@ -14,8 +9,8 @@ destroy-requires c κs = search needs
 destroyed-numbers-requires : tie.Need-destroyed-numbers-requires
 destroyed-numbers-requires c κs = search needs
 
-write-requires : tie.Need-write-requires
-write-requires c κs = search needs
+tell-requires : tie.Need-tell-requires
+tell-requires c κs = search needs
 
 same-length : tie.Need-same-length
 same-length c = search needs
@@ -27,7 +22,7 @@ same-length-3 : tie.Need-same-length-3
 same-length-3 c = search needs
 
 returns : tie.Need-returns
-returns c = let q = c .before .before .before .before .destroyed-numbers .ensures ∙ ap answerWords (c .before .before .before .before .before .before .before .before .before .destroy .ensures .0) in (c .before .before .before .before .before .before .before .before .before .destroy .ensures .1 .0, (c .before .before .before .before .before .before .before .before .before .destroy .ensures .1 .1, (c .before .before .write .ensures ∙ ap (fill _ 0) q, ap (λ (l : List ℕ). getD l 0 0) q)))
+returns c = (c .before .before .before .before .before .before .before .before .before .destroy .ensures .1 .0, (c .before .before .before .before .before .before .before .before .before .destroy .ensures .1 .1, told (c .before .before .before .before .destroyed-numbers .ensures) (c .before .before .before .before .before .before .before .before .before .destroy .ensures .0) (c .before .before .tell .ensures)))
 
 pub row-page-index-destroy-spec : {M : Type 1} → statement M
 row-page-index-destroy-spec =
@@ -35,7 +30,7 @@ row-page-index-destroy-spec =
     (tie.spec
     destroy-requires
     destroyed-numbers-requires
-    write-requires
+    tell-requires
     same-length
     same-length-2
     same-length-3

@@ -2,10 +2,8 @@ use borrow.Author.Needs.{needs}
 use Prim.Native.Nat.{ℕ}
 use mathlib.Core.List.{List}
 use mathlib.Core.Path.{_≡_, sym, ap, _∙_}
-use lib.ListN.{getD}
-use Rattle.model.specs.Words.{fill}
 use Rattle.model.specs.Refusals.{Answer}
-use Rattle.answer_numbers.specs.Numbers.{answerWords}
+use Rattle.answer_words.proofs.Telling.{told}
 use Rattle.model.specs.declared.cursor.RowPageIndexMemCursor.{RowPageIndexMemCursor}
 use Rattle.next_words.specs.Written.{nextWordsOf, WordOutcome}
 use Rattle.next_words.proofs.Equation.{words-are}
@@ -28,8 +26,8 @@ cursor-out-requires c κs = search needs
 next-leaf-numbers-requires : tie.Need-next-leaf-numbers-requires
 next-leaf-numbers-requires c κs = search needs
 
-write-requires : tie.Need-write-requires
-write-requires c κs = search needs
+tell-requires : tie.Need-tell-requires
+tell-requires c κs = search needs
 
 same-length : tie.Need-same-length
 same-length c = search needs
@@ -45,8 +43,8 @@ returns c =
     let a = c .before .before .before .before .before .before .before .before .before .before .before .before .before .before .before .before .before .before .before .before .args in
     let s = words-are (a .words .now) _ (a .records .now) _ _ (c .before .before .before .before .before .before .before .before .before .before .before .before .next-words .ensures) in
     let e : nextWordsOf (a .words .now) _ (a .records .now) ≡ nextWordsOf (a .words .now) (cursorIn (a .cursor .now)) (a .records .now) = ap (λ (c : RowPageIndexMemCursor). nextWordsOf (a .words .now) c (a .records .now)) (c .before .before .before .before .before .before .before .before .before .before .before .before .before .before .cursor-in .ensures) in
-    let q = c .before .before .before .before .next-leaf-numbers .ensures ∙ ap answerWords (s .0 ∙ ap (λ (o : WordOutcome). o .answer) e) in
-    (c .before .before .before .before .before .before .before .cursor-out .ensures ∙ both (a .cursor .now) _ _ _ _ (s .1 ∙ ap (λ (o : WordOutcome). o .cursor) e) (s .0 ∙ ap (λ (o : WordOutcome). o .answer) e), (s .2 ∙ ap (λ (o : WordOutcome). o .words) e, (c .before .before .write .ensures ∙ ap (fill _ 0) q, ap (λ (l : List ℕ). getD l 0 0) q)))
+    let t = s .0 ∙ ap (λ (o : WordOutcome). o .answer) e in
+    (c .before .before .before .before .before .before .before .cursor-out .ensures ∙ both (a .cursor .now) _ _ _ _ (s .1 ∙ ap (λ (o : WordOutcome). o .cursor) e) t, (s .2 ∙ ap (λ (o : WordOutcome). o .words) e, told (c .before .before .before .before .next-leaf-numbers .ensures) t (c .before .before .tell .ensures)))
 
 pub row-page-index-next-spec : {M : Type 1} → statement M
 row-page-index-next-spec =
@@ -56,7 +54,7 @@ row-page-index-next-spec =
     next-words-requires
     cursor-out-requires
     next-leaf-numbers-requires
-    write-requires
+    tell-requires
     same-length
     same-length-2
     same-length-3

@@ -1,4 +1,4 @@
-use mathlib.Core.Path.{sym}
+use mathlib.Core.Path.{sym, _∙_}
 use lib.Seq.{length-take-le}
 use Rattle.script_calls.proofs.Performing.{prunes}
 use borrow.Author.Needs.{needs}
@@ -15,7 +15,7 @@ slice-relend-prefix-prune-checkpoint-prefix : tie.Need-slice-relend-prefix-prune
 slice-relend-prefix-prune-checkpoint-prefix c = search needs
 
 slice-aggregate-prune-checkpoint-prefix : tie.Need-slice-aggregate-prune-checkpoint-prefix
-slice-aggregate-prune-checkpoint-prefix c = sym (length-take-le (c .before .before .before .before .before .before .before .args .used) (c .before .before .before .before .before .before .before .args .s .now) (c .before .before .before .before .before .before .before .pre .0))
+slice-aggregate-prune-checkpoint-prefix c = let x = c .before .before .before .before .before .before .before .args in sym (length-take-le (x .used) (x .s .now) (c .before .before .before .before .before .before .before .pre .0))
 
 array-share-prefix-ids : tie.Need-array-share-prefix-ids
 array-share-prefix-ids c = search needs
@@ -26,8 +26,17 @@ slice-aggregate-prune-checkpoint-prefix-2 c = sym (length-take-le _ (c .before .
 prune-checkpoint-prefix-requires : tie.Need-prune-checkpoint-prefix-requires
 prune-checkpoint-prefix-requires c κs = search needs
 
-put-pruned-requires : tie.Need-put-pruned-requires
-put-pruned-requires c κs = search needs
+pruned-numbers-requires : tie.Need-pruned-numbers-requires
+pruned-numbers-requires c κs = search needs
+
+slice-aggregate-put-answer : tie.Need-slice-aggregate-put-answer
+slice-aggregate-put-answer c = search needs
+
+slice-aggregate-put-answer-2 : tie.Need-slice-aggregate-put-answer-2
+slice-aggregate-put-answer-2 c = search needs
+
+put-answer-requires : tie.Need-put-answer-requires
+put-answer-requires c κs = search needs
 
 same-length : tie.Need-same-length
 same-length c = search needs
@@ -37,10 +46,10 @@ same-length-2 c = search needs
 
 returns : tie.Need-returns
 returns c =
-    let x = c .before .before .before .before .before .before .before .before .before .before .before .before .before .before .before .args in
-    let r = c .before .before .before .before .before .before .prune-checkpoint-prefix .ensures in
-    let e = c .before .before .before .before .before .before .before .before .before .before .copy-ids .ensures .is in
-    prunes (x .s .now) (x .out .now) (x .used) _ _ _ _ _ _ _ _ (rw e at (r .0)) (rw e at (r .1)) (c .before .before .put-pruned .ensures)
+    let x = c .before .before .before .before .before .before .before .before .before .before .before .before .before .before .before .before .before .before .args in
+    let r = c .before .before .before .before .before .before .before .before .before .prune-checkpoint-prefix .ensures in
+    let e = c .before .before .before .before .before .before .before .before .before .before .before .before .before .copy-ids .ensures .is in
+    prunes (x .s .now) (x .out .now) (x .used) _ _ _ _ _ _ _ _ (c .before .before .before .before .before .before .pruned-numbers .ensures .answer ∙ rw e at (r .0)) (rw e at (r .1)) (c .before .before .put-answer .ensures)
 
 pub prune-step-spec : {M : Type 1} → statement M
 prune-step-spec =
@@ -53,7 +62,10 @@ prune-step-spec =
     array-share-prefix-ids
     slice-aggregate-prune-checkpoint-prefix-2
     prune-checkpoint-prefix-requires
-    put-pruned-requires
+    pruned-numbers-requires
+    slice-aggregate-put-answer
+    slice-aggregate-put-answer-2
+    put-answer-requires
     same-length
     same-length-2
     returns)
