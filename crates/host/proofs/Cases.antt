@@ -6,7 +6,7 @@ use Rattle.model.specs.Refusals.{headerOk}
 use Rattle.model.specs.Tree.{pairsFrom, rising, firstRow, lastRow, meets, endSound, sound, emptyRoot}
 use Rattle.model.specs.Words.{stands, wordPlace, part, fill}
 use Rattle.answer_numbers.specs.Numbers.{answerWords}
-use Rattle.next_words.specs.Written.{wordsOf, recordsIn}
+use Rattle.next_words.specs.Written.{recordWords, recordsIn}
 use Rattle.host.specs.Cases.{readWords, readCursors, writtenWords, writtenExpected, steps, stepsExpected}
 
 pub cursorsRead : readWords ≡ readCursors
@@ -17,5 +17,5 @@ unfolding fill givesLeaf
 cursorsWritten = refl
 
 pub stepsServed : steps ≡ stepsExpected
-unfolding records givesLeaf isLast given nextLeafOf nextRow checked descend rootLeaf lastNotAbove headerOk pairsFrom rising firstRow lastRow meets endSound sound emptyRoot stands wordPlace part fill answerWords wordsOf recordsIn
+unfolding records givesLeaf isLast given nextLeafOf nextRow checked descend rootLeaf lastNotAbove headerOk pairsFrom rising firstRow lastRow meets endSound sound emptyRoot stands wordPlace part fill answerWords recordWords recordsIn
 stepsServed = refl

@@ -16,7 +16,7 @@ use Rattle.model.specs.LeafWalk.{Stepped, givesLeaf, nextLeafOf}
 use Rattle.model.specs.Release as Release
 use Rattle.model.specs.Release.{Released}
 use Rattle.model.proofs.Still.{create-still, insert-still, prune-still, destroy-still, empty-still, next-still}
-use Rattle.next_words.specs.Written.{wordsOf, recordsIn}
+use Rattle.next_words.specs.Written.{recordWords, recordsIn}
 use Rattle.next_words.proofs.Equation.{written-back}
 use Rattle.host_cursor.specs.Cursors.{cursorIn, cursorAfter}
 use Rattle.host.specs.Served.{Arrays, withWords, withPages, withCursor, withRecords, Function, create, append, find, prune, destroy, destroyEmpty, check, seek, next, Served, served, isNone, changesNothing}
@@ -46,7 +46,7 @@ module _ (m : Arrays) where
 
   -- what a step leaves
   abbrev stepped : Stepped → Arrays
-  stepped o = withRecords (withCursor m (cursorAfter (m .cursor) (o .cursor) (o .answer))) (fill (m .records) 0 (wordsOf (o .list)))
+  stepped o = withRecords (withCursor m (cursorAfter (m .cursor) (o .cursor) (o .answer))) (fill (m .records) 0 (recordWords (o .list)))
 
   abbrev step : Stepped
   step = nextLeafOf lent (m .words) (cursorIn (m .cursor)) (recordsIn (m .records))

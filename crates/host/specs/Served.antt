@@ -23,8 +23,8 @@ pub record Arrays : Type 0 where
   pub cursor : List ℕ
   pub records : List ℕ
 
-abbrev pub nothing : Arrays
-nothing = record { words = []; pages = []; cursor = []; records = [] }
+abbrev pub noArrays : Arrays
+noArrays = record { words = []; pages = []; cursor = []; records = [] }
 
 module _ (m : Arrays) where
   abbrev pub withWords : List ℕ → Arrays
@@ -41,13 +41,13 @@ module _ (m : Arrays) where
 
 -- what each kind of function is lent
 abbrev pub onWords : List ℕ → Arrays
-onWords w = withWords nothing w
+onWords w = withWords noArrays w
 
 abbrev pub onPages : List ℕ → List ℕ → Arrays
 onPages w l = withPages (onWords w) l
 
 abbrev pub onCursor : List ℕ → Arrays
-onCursor c = withCursor nothing c
+onCursor c = withCursor noArrays c
 
 abbrev pub onWalk : List ℕ → List ℕ → List ℕ → Arrays
 onWalk w c l = withRecords (withCursor (onWords w) c) l

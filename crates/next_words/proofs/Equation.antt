@@ -12,11 +12,11 @@ use Rattle.model.specs.declared.node.PageEntry.{PageEntry}
 use Rattle.model.specs.declared.cursor.RowPageIndexMemCursor.{RowPageIndexMemCursor}
 use Rattle.model.proofs.Answers.{next-leaf-one}
 use Rattle.model.proofs.Fill.{fill-is}
-use Rattle.next_words.specs.Written.{wordsOf, WordSteps, recordsIn, WordOutcome, nextWordsOf}
+use Rattle.next_words.specs.Written.{recordWords, WordSteps, recordsIn, WordOutcome, nextWordsOf}
 use Rattle.next_words.specs.declared.WordStep.{WordStep}
 
-words-length : (a : List PageEntry) → length (wordsOf a) ≡ 2 * length a
-unfolding wordsOf
+words-length : (a : List PageEntry) → length (recordWords a) ≡ 2 * length a
+unfolding recordWords
 words-length [] = refl
 words-length (e ∷ a) = omega (arith, words-length a)
 
@@ -31,32 +31,32 @@ record-half : (b : List ℕ) → length (recordsIn b) ≡ length b / 2
 record-half b = let q = record-count b in omega (arith, q .0, q .1)
 
 -- writing back what was read changes nothing
-back : (b : List ℕ) → wordsOf (recordsIn b) ++ drop (length (wordsOf (recordsIn b))) b ≡ b
-unfolding recordsIn wordsOf
+back : (b : List ℕ) → recordWords (recordsIn b) ++ drop (length (recordWords (recordsIn b))) b ≡ b
+unfolding recordsIn recordWords
 back [] = refl
 back (r ∷ []) = refl
 back (r ∷ x ∷ b) = ap (λ (l : List ℕ). r ∷ x ∷ l) (back b)
 
-pub written-back : (b : List ℕ) → fill b 0 (wordsOf (recordsIn b)) ≡ b
-written-back b = fill-is b (wordsOf (recordsIn b)) (omega (arith, words-length (recordsIn b), record-count b .0)) ∙ back b
+pub written-back : (b : List ℕ) → fill b 0 (recordWords (recordsIn b)) ≡ b
+written-back b = fill-is b (recordWords (recordsIn b)) (omega (arith, words-length (recordsIn b), record-count b .0)) ∙ back b
 
 behind : (b : List ℕ) (g : List PageEntry) → 2 * length g ≤ length b
-    → (let all = wordsOf (g ++ drop (length g) (recordsIn b)) in all ++ drop (length all) b) ≡ wordsOf g ++ drop (length (wordsOf g)) b
-unfolding recordsIn wordsOf
+    → (let all = recordWords (g ++ drop (length g) (recordsIn b)) in all ++ drop (length all) b) ≡ recordWords g ++ drop (length (recordWords g)) b
+unfolding recordsIn recordWords
 behind b [] h = back b
 behind [] (e ∷ g) h = absurd (omega arith)
 behind (r ∷ []) (e ∷ g) h = absurd (omega arith)
 behind (r ∷ x ∷ b) (e ∷ g) h = ap (λ (l : List ℕ). e .«row_id» .0 ∷ e .«page_id» .0 ∷ l) (behind b g (omega arith))
 
-filled : (b : List ℕ) (g : List PageEntry) → length g ≤ length (recordsIn b) → fill b 0 (wordsOf (fill (recordsIn b) 0 g)) ≡ fill b 0 (wordsOf g)
+filled : (b : List ℕ) (g : List PageEntry) → length g ≤ length (recordsIn b) → fill b 0 (recordWords (fill (recordsIn b) 0 g)) ≡ fill b 0 (recordWords g)
 filled b g h =
     let q = record-count b .0 in
     let all = g ++ drop (length g) (recordsIn b) in
     let n : length all ≡ length (recordsIn b) = omega (arith, length-append g (drop (length g) (recordsIn b)), length-drop (length g) (recordsIn b)) in
-    ap (λ (l : List PageEntry). fill b 0 (wordsOf l)) (fill-is (recordsIn b) g h)
-    ∙ fill-is b (wordsOf all) (omega (arith, words-length all, n))
+    ap (λ (l : List PageEntry). fill b 0 (recordWords l)) (fill-is (recordsIn b) g h)
+    ∙ fill-is b (recordWords all) (omega (arith, words-length all, n))
     ∙ behind b g (omega arith)
-    ∙ sym (fill-is b (wordsOf g) (omega (arith, words-length g)))
+    ∙ sym (fill-is b (recordWords g) (omega (arith, words-length g)))
 
 -- the law
 pub words-are : (w : List ℕ) (c : RowPageIndexMemCursor) (before after : List ℕ) (r : WordStep) → WordSteps w c before after r
@@ -66,7 +66,7 @@ words-are w c before after r s =
     let q = record-half before in (
       s .answer l q,
       s .cursor l q,
-      s .words ∙ sym (filled before (s .given) (omega (arith, s .few, q))) ∙ ap (λ (x : List PageEntry). fill before 0 (wordsOf x)) (sym (s .list l q)),
+      s .words ∙ sym (filled before (s .given) (omega (arith, s .few, q))) ∙ ap (λ (x : List PageEntry). fill before 0 (recordWords x)) (sym (s .list l q)),
     )
 
 pub words-unique : (w : List ℕ) (c : RowPageIndexMemCursor) (before v u : List ℕ) (a b : WordStep) → WordSteps w c before v a → WordSteps w c before u b

@@ -11,9 +11,9 @@ use Rattle.model.specs.declared.cursor.RowPageIndexMemCursor.{RowPageIndexMemCu
 use Rattle.next_words.specs.declared.WordStep.{WordStep}
 
 -- row and page of each record in turn
-unfoldable pub wordsOf : List PageEntry → List ℕ
-wordsOf [] = []
-wordsOf (e ∷ es) = e .«row_id» .0 ∷ e .«page_id» .0 ∷ wordsOf es
+unfoldable pub recordWords : List PageEntry → List ℕ
+recordWords [] = []
+recordWords (e ∷ es) = e .«row_id» .0 ∷ e .«page_id» .0 ∷ recordWords es
 
 -- Answer and cursor are those of next for every list of records that the words have room for; the records that it
 -- gives out are written as words, and the other words stay.
@@ -23,7 +23,7 @@ pub record WordSteps (w : List ℕ) (c : RowPageIndexMemCursor) (before after : 
   pub cursor : (l : List PageEntry) → length l ≡ length before / 2 → r .cursor ≡ nextLeafOf lent w c l .cursor
   pub list : (l : List PageEntry) → length l ≡ length before / 2 → nextLeafOf lent w c l .list ≡ fill l 0 given
   pub few : length given ≤ length before / 2
-  pub words : after ≡ fill before 0 (wordsOf given)
+  pub words : after ≡ fill before 0 (recordWords given)
 
 -- words read as records, two to a record; an odd word is none
 unfoldable pub recordsIn : List ℕ → List PageEntry
@@ -41,4 +41,4 @@ pub record WordOutcome : Type 0 where
 abbrev pub nextWordsOf : List ℕ → RowPageIndexMemCursor → List ℕ → WordOutcome
 nextWordsOf w c before =
     let o = nextLeafOf lent w c (recordsIn before) in
-    record { answer = o .answer; cursor = o .cursor; words = fill before 0 (wordsOf (o .list)) }
+    record { answer = o .answer; cursor = o .cursor; words = fill before 0 (recordWords (o .list)) }

@@ -7,7 +7,7 @@ ghost use Rattle.model.specs.Words.{fill};
 ghost use Rattle.model.specs.LeafWalk as W;
 ghost use Rattle.model.specs.Refusals.{nextLeaf};
 ghost use Rattle.next_records.specs.Listing.{Readable, recordsOf};
-ghost use Rattle.next_words.specs.Written.{WordSteps, wordsOf};
+ghost use Rattle.next_words.specs.Written.{WordSteps, recordWords};
 use model::answer::NextLeaf;
 use model::cursor::RowPageIndexMemCursor;
 use next_records::LeafEntries;
@@ -45,7 +45,7 @@ fn copy_front(from: &[u64], out: &mut [u64])
 // Row and page of each entry in turn: the words of the leaf's pairs as they stand.
 fn copy_words(s: &[u64], out: &mut [u64], e: LeafEntries)
     requires { ⌜ Readable (now s) e × (2 * e .count ≤ length (now out)) ⌝ }
-    ensures { λ _. ⌜ now (out .exit) ≡ fill (now (out .entry)) 0 (wordsOf (recordsOf (now (s .entry)) e)) ⌝ }
+    ensures { λ _. ⌜ now (out .exit) ≡ fill (now (out .entry)) 0 (recordWords (recordsOf (now (s .entry)) e)) ⌝ }
 {
     let count = e.count;
     if count == 0 {

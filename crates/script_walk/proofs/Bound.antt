@@ -22,7 +22,7 @@ use Rattle.model.proofs.Tests.{by-test, holds}
 use Rattle.script_text.specs.Lines.{Puts}
 use Rattle.answer_line.specs.Answers.{leafLines}
 use Rattle.script_calls.specs.Calls.{lentRecords, walkLines}
-use Rattle.script_walk.specs.Walked.{Walks}
+use Rattle.script_walk.specs.Walked.{WalkPuts}
 use Rattle.script_walk.specs.declared.WalkStep.{WalkStep}
 use Rattle.script_walk.proofs.Walking.{walks-on, walks-out}
 
@@ -180,7 +180,7 @@ enough w (suc j) (suc k) c h l =
 
 -- A turn of a walk ----------------------------------------------------------------------------------------
 
-module _ (s : List ℕ) (c : RowPageIndexMemCursor) {out out₁ : List ℕ} {place : ℕ} {t : WalkStep} (w : Walks (nextLeafOf lent s c lentRecords) out place out₁ t) where
+module _ (s : List ℕ) (c : RowPageIndexMemCursor) {out out₁ : List ℕ} {place : ℕ} {t : WalkStep} (w : WalkPuts (nextLeafOf lent s c lentRecords) out place out₁ t) where
   one-of : left s c ≡ suc (left s c - 1)
   one-of = omega (arith, left-some s c)
 

@@ -10,7 +10,7 @@ use Rattle.script_calls.specs.declared.Progress.{Progress}
 use Rattle.script_walk.specs.declared.WalkStep.{WalkStep}
 
 -- what a step of a walk does: it goes on where a leaf was given
-pub record Walks (p : Stepped) (out : List ℕ) (at : ℕ) (out₁ : List ℕ) (r : WalkStep) : Type 0 where
+pub record WalkPuts (p : Stepped) (out : List ℕ) (at : ℕ) (out₁ : List ℕ) (r : WalkStep) : Type 0 where
   pub cursor : r .cursor ≡ p .cursor
   pub goes : r .goes ≡ givesLeaf (p .answer)
   pub puts : Puts out at (leafLine (p .answer)) out₁ (r .at)

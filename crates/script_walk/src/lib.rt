@@ -9,7 +9,7 @@ ghost use Rattle.script_text.specs.Lines.{Puts, line};
 ghost use Rattle.script_records.specs.Records as R;
 ghost use Rattle.script_calls.specs.Calls.{lentRecords, perform, walkLines};
 ghost use Rattle.script_calls.specs.Steps.{Does, memory};
-ghost use Rattle.script_walk.specs.Walked.{Walks};
+ghost use Rattle.script_walk.specs.Walked.{WalkPuts};
 use model::cursor::RowPageIndexMemCursor;
 use model::id::RowID;
 use script_calls::Progress;
@@ -29,7 +29,7 @@ fn walk_once(
     at: usize,
 ) -> WalkStep
     requires { ⌜ length (now list) ≡ 4096 ⌝ }
-    ensures { λ r. ⌜ Walks (W.nextLeafOf lent (now (s .entry)) cursor lentRecords) (now (out .entry)) at (now (out .exit)) r ⌝ }
+    ensures { λ r. ⌜ WalkPuts (W.nextLeafOf lent (now (s .entry)) cursor lentRecords) (now (out .entry)) at (now (out .exit)) r ⌝ }
 {
     let step = next_words::next_words(s, cursor, list);
     let answer = step.answer;

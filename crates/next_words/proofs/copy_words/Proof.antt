@@ -7,7 +7,7 @@ use Rattle.model.specs.Words.{fill}
 use Rattle.node_read.specs.Layout.{shapeOf}
 use Rattle.model.proofs.Parts.{pairs-few}
 use Rattle.next_records.specs.Listing.{recordsOf}
-use Rattle.next_words.specs.Written.{wordsOf}
+use Rattle.next_words.specs.Written.{recordWords}
 use Rattle.next_words.proofs.Writing.{pairs-all, no-pairs}
 use Rattle.next_words.proofs.copy_words.Statement.{statement}
 use Rattle.next_words.proofs.copy_words.Tie as tie
