@@ -7,15 +7,6 @@ use std::time::{Duration, Instant};
 
 unsafe extern "C" {
     fn row_page_script(script: *const u8, len: usize, out: *mut u8, room: usize) -> usize;
-    fn wait4(pid: i32, status: *mut i32, options: i32, usage: *mut Usage) -> i32;
-}
-
-/// struct rusage of Linux on x86-64: two times, then 14 longs, of which the first is the resident set's most in KB.
-#[repr(C)]
-struct Usage {
-    times: [i64; 4],
-    most: i64,
-    rest: [i64; 13],
 }
 
 fn record(script: &mut Vec<u8>, kind: u16, words: &[u64]) {
@@ -51,8 +42,15 @@ fn say(name: &str, time: Duration, script: &[u8], base: Duration) {
     println!("{name:22} {seconds:7.3} s {speed:7.0} MB/s {:5.2}", seconds / base.as_secs_f64());
 }
 
-/// The program's time and memory, and whether its listing is the function's.
-fn program(path: &str, script: &[u8], listing: &[u8], piped: bool) -> (Duration, i64) {
+/// The most KB that a process had resident.
+fn most(process: u32) -> u64 {
+    let status = std::fs::read_to_string(format!("/proc/{process}/status")).unwrap();
+    let line = status.lines().find(|line| line.starts_with("VmHWM:")).unwrap();
+    line.split_whitespace().nth(1).unwrap().parse().unwrap()
+}
+
+/// The program's time, and its memory after three quarters of its listing, which has to be the function's.
+fn program(path: &str, script: &[u8], listing: &[u8], piped: bool) -> (Duration, u64) {
     let begin = Instant::now();
     let mut command = Command::new("target/bin/script_run");
     command.stdout(Stdio::piped());
@@ -60,19 +58,19 @@ fn program(path: &str, script: &[u8], listing: &[u8], piped: bool) -> (Duration,
         true => command.stdin(Stdio::piped()).spawn().unwrap(),
         false => command.stdin(File::open(path).unwrap()).spawn().unwrap(),
     };
-    let mut got = Vec::with_capacity(listing.len() + 1);
+    let mut got = vec![0; listing.len() / 4 * 3];
+    let mut memory = 0;
     std::thread::scope(|scope| {
         if let Some(mut stdin) = child.stdin.take() {
             scope.spawn(move || stdin.write_all(script).unwrap());
         }
-        child.stdout.take().unwrap().read_to_end(&mut got).unwrap();
+        let mut stdout = child.stdout.take().unwrap();
+        stdout.read_exact(&mut got).unwrap();
+        memory = most(child.id());
+        stdout.read_to_end(&mut got).unwrap();
     });
-    let mut usage = Usage { times: [0; 4], most: 0, rest: [0; 13] };
-    let mut status = 0;
-    unsafe { wait4(child.id() as i32, &mut status, 0, &mut usage) };
-    let time = begin.elapsed();
-    assert!(status == 0 && got == listing, "the program's listing differs from the function's");
-    (time, usage.most)
+    assert!(child.wait().unwrap().success() && got == listing, "the program's listing differs from the function's");
+    (begin.elapsed(), memory)
 }
 
 fn main() {
@@ -90,15 +88,15 @@ fn main() {
     listing.truncate(length);
     println!("{} bytes, {} bytes of lines", script.len(), listing.len());
     say("row_page_script", function, &script, function);
-    let mut most = 0;
+    let mut memory = 0;
     for (name, piped) in [("script_run, a file", false), ("script_run, a pipe", true)] {
         let time = best(|| {
-            let (time, memory) = program(path, &script, &listing, piped);
-            most = most.max(memory);
+            let (time, kilobytes) = program(path, &script, &listing, piped);
+            memory = memory.max(kilobytes);
             time
         });
         say(name, time, &script, function);
     }
-    println!("script_run had at most {most} KB");
+    println!("script_run had at most {memory} KB");
     std::fs::remove_file(path).unwrap();
 }
