@@ -1,6 +1,6 @@
-// The two ways to run a script, compared on standard input: the C function on all the bytes, and record by record as
-// script_run does. First on every prefix of the input, so that every record is cut at every byte; then on the whole input
-// with every length of the C function's output, up to that of the listing.
+// The two ways to run a script, compared: the C function on all the bytes, and in blocks as script_run does. Standard input
+// has the scripts, each after its length in four bytes, the lowest first. Each is tried on every prefix, so that every record
+// is cut at every byte; then whole, with every length of the C function's output, up to that of the listing and past it.
 
 pub mod compare;
 pub mod single;
@@ -22,7 +22,7 @@ struct Tally {
 
 // The bytes of a listing of this length that fit.
 fn fitting(len: usize, room: usize) -> usize
-    ensures { λ r. ⌜ r ≤ room ⌝ }
+    ensures { λ r. ⌜ (r ≤ room) × (r ≤ len) ⌝ }
 {
     if room < len {
         return room;
@@ -70,34 +70,35 @@ fn try_prefixes(script: &[u8], a: &mut [u8], b: &mut [u8]) -> Tally
 }
 
 // An output of this length, the first bytes of out, all of which hold the mark: the bytes that fit are the listing's, those
-// after the lent part are as they were, and the whole length is returned.
+// after them are as they were, and the whole length is returned.
 fn is_right(script: &[u8], listing: &[u8], whole: usize, out: &mut [u8], len: usize) -> bool
-    requires { ⌜ (len ≤ length (now listing)) × (len ≤ length (now out)) ⌝ }
+    requires { ⌜ len ≤ length (now out) ⌝ }
 {
     let n = script::row_page_script(script, &mut out[0..len]);
     if n != whole {
         return false;
     }
-    if !compare::is_same(&out[0..len], &listing[0..len]) {
+    let k = fitting(listing.len(), len);
+    if !compare::is_same(&out[0..k], &listing[0..k]) {
         return false;
     }
-    compare::is_all(&out[len..], MARK)
+    compare::is_all(&out[k..], MARK)
 }
 
 fn try_length(script: &[u8], listing: &[u8], whole: usize, len: usize) -> bool
-    requires { ⌜ (len ≤ length (now listing)) × (len ≤ 65536) ⌝ }
+    requires { ⌜ len ≤ 65536 ⌝ }
 {
     let mut out = [MARK; 65536];
     is_right(script, listing, whole, &mut out, len)
 }
 
-// How many lengths up to the listing's are wrong.
-fn try_lengths(script: &[u8], listing: &[u8], whole: usize) -> u64
-    requires { ⌜ length (now listing) ≤ 65536 ⌝ }
+// How many lengths from one to below another are wrong.
+fn try_lengths(script: &[u8], listing: &[u8], whole: usize, from: usize, to: usize) -> u64
+    requires { ⌜ to ≤ 65537 ⌝ }
 {
     let mut wrong: u64 = 0;
-    let mut len: usize = 0;
-    while len <= listing.len() {
+    let mut len = from;
+    while len < to {
         wrong += one_if(!try_length(script, listing, whole, len));
         len += 1;
     }
@@ -112,19 +113,53 @@ fn print_count(word: &[u8], n: u64) {
     io::write_all(STDOUT_FILENO, b"\n");
 }
 
-fn report(script: &[u8], a: &mut [u8], b: &mut [u8])
-    requires { ⌜ (length (now script) ≤ 65536) × (length (now b) ≤ 65536) ⌝ }
+fn report_prefixes(script: &[u8], a: &mut [u8], b: &mut [u8])
+    requires { ⌜ length (now script) ≤ 65536 ⌝ }
 {
     let t = try_prefixes(script, a, b);
     print_count(b"prefixes", script.len() as u64 + 1);
     print_count(b"bad record", t.bad);
     print_count(b"different", t.different);
-    let whole = single::list(script, b);
-    let n = fitting(whole, b.len());
-    let wrong = try_lengths(script, &b[0..n], whole);
+}
+
+fn report_lengths(script: &[u8], listing: &[u8], whole: usize)
+    requires { ⌜ length (now listing) ≤ 65536 ⌝ }
+{
+    let n = listing.len();
+    let wrong = try_lengths(script, listing, whole, 0, n + 1);
     print_count(b"lengths", n as u64 + 1);
     print_count(b"wrong", wrong);
-    io::write_all(STDOUT_FILENO, &b[0..n]);
+    io::write_all(STDOUT_FILENO, listing);
+    let more = fitting(40, 65536 - n);
+    let wrong = try_lengths(script, listing, whole, n + 1, n + 1 + more);
+    print_count(b"longer", more as u64);
+    print_count(b"wrong", wrong);
+}
+
+fn report(script: &[u8], a: &mut [u8], b: &mut [u8])
+    requires { ⌜ (length (now script) ≤ 65536) × (length (now b) ≤ 65536) ⌝ }
+{
+    report_prefixes(script, a, b);
+    let whole = single::list(script, b);
+    let n = fitting(whole, b.len());
+    report_lengths(script, &b[0..n], whole);
+}
+
+// Each script of the input, and how many bytes are left after the last.
+fn report_all(input: &[u8], a: &mut [u8], b: &mut [u8])
+    requires { ⌜ (length (now input) ≤ 65536) × (length (now b) ≤ 65536) ⌝ }
+{
+    let mut at: usize = 0;
+    while 4 <= input.len() - at {
+        let len = script_records::read_u32(&input[at..], 0) as usize;
+        let from = at + 4;
+        if input.len() - from < len {
+            break;
+        }
+        at = from + len;
+        report(&input[from..at], a, b);
+    }
+    print_count(b"left", (input.len() - at) as u64);
 }
 
 fn main() {
@@ -132,5 +167,5 @@ fn main() {
     let mut a = io::large_buffer();
     let mut b = io::large_buffer();
     let n = io::read_full(STDIN_FILENO, &mut input);
-    report(&input[0..n], &mut a, &mut b);
+    report_all(&input[0..n], &mut a, &mut b);
 }

@@ -26,21 +26,22 @@ pub fn kind_of(b: &[u8], w: Word) -> u64 {
     NO_KIND
 }
 
+// How many numbers a call of this kind takes; a prune takes page ids too.
+pub fn takes(kind: u64) -> usize {
+    match kind {
+        1 => 3,
+        2 => 2,
+        4 => 2,
+        _ => 1,
+    }
+}
+
 // Whether a record of this kind has so many words.
 pub fn is_size(kind: u64, count: usize) -> bool {
-    if kind == 1 {
-        return count == 3;
-    }
-    if kind == 2 {
-        return count == 2;
-    }
     if kind == 4 {
-        if count < 2 {
-            return false;
-        }
-        return count <= 511;
+        return 2 <= count && count <= 511;
     }
-    count == 1
+    count == takes(kind)
 }
 
 // So many bytes of x from a place on, the lowest first. The place after them.

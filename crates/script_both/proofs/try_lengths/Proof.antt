@@ -1,14 +1,13 @@
 use borrow.Author.Needs.{needs}
-use Prim.Native.Nat.{_+_, _-_, _≤_}
-use lib.ListN.{length}
+use Prim.Native.Nat.{_-_, _≤_}
 use Rattle.script_both.proofs.try_lengths.Statement.{statement}
 use Rattle.script_both.proofs.try_lengths.Tie as tie
 
 abbrev Inv-loop : tie.InvT-loop
-Inv-loop script listing whole wrong₀ len₀ wrong len = (wrong ≤ len) × (len ≤ length listing + 1)
+Inv-loop script listing whole from to wrong₀ len₀ wrong len = wrong ≤ len
 
 abbrev μ-loop : tie.MeasureT-loop
-μ-loop script listing whole wrong₀ len₀ wrong len = length listing + 1 - len
+μ-loop script listing whole from to wrong₀ len₀ wrong len = to - len
 
 loop-holds : tie.Need-loop-holds Inv-loop μ-loop
 loop-holds c = search needs

@@ -6,16 +6,16 @@ use Rattle.script_run.proofs.run.Statement.{statement}
 use Rattle.script_run.proofs.run.Tie as tie
 
 abbrev Inv-loop : tie.InvT-loop
-Inv-loop words₀ bytes₀ out₀ used₀ turns₀ words bytes out used turns = (length words ≡ length words₀) × (length bytes ≡ length bytes₀) × (length out ≡ length out₀) × (used ≤ length words)
+Inv-loop words₀ bytes₀ out₀ state₀ turns₀ words bytes out state turns = (length words ≡ length words₀) × (length bytes ≡ length bytes₀) × (length out ≡ length out₀) × (state .used ≤ length words) × (state .at ≤ state .end) × (state .end ≤ length bytes)
 
 abbrev μ-loop : tie.MeasureT-loop
-μ-loop words₀ bytes₀ out₀ used₀ turns₀ words bytes out used turns = turns
+μ-loop words₀ bytes₀ out₀ state₀ turns₀ words bytes out state turns = turns
 
 loop-holds : tie.Need-loop-holds Inv-loop μ-loop
 loop-holds c = search needs
 
-run-record-requires : tie.Need-run-record-requires Inv-loop μ-loop
-run-record-requires c κs = search needs
+turn-requires : tie.Need-turn-requires Inv-loop μ-loop
+turn-requires c κs = search needs
 
 same-length : tie.Need-same-length Inv-loop μ-loop
 same-length c = search needs
@@ -57,7 +57,7 @@ run-spec =
     Inv-loop
     μ-loop
     loop-holds
-    run-record-requires
+    turn-requires
     same-length
     same-length-2
     same-length-3
