@@ -1,10 +1,13 @@
 //! Every cut of every small tree: the answer and every word, what is freed and in which order, the chain, and the store after it.
 //! Trees and words are read by `pruned`; rows and pages come from the plan by which a tree was made.
+use crate::beside::{Call, Step};
 use crate::ledger::{Answer, NONE, done, refused};
+use crate::lines::Lines;
+use crate::places;
 use crate::progress::Progress;
 use crate::pruned::{Node, pruned, released};
 use crate::store::lent;
-use crate::trees::{self, Tree};
+use crate::trees::{self, Tree, plan};
 use std::collections::{BTreeMap, HashSet, VecDeque};
 
 const STALE: u64 = 0xABAD_1DEA;
@@ -292,4 +295,61 @@ pub fn run() -> bool {
     fault.iter().for_each(|text| println!("differs: {text}"));
     println!("{number} cuts, {calls} calls compared\n{} differences", fault.iter().count());
     fault.is_none()
+}
+
+/// A tree of so many pages as lines; the comment says what follows.
+fn grown(lines: &mut Lines, capacity: u64, nodes: u64, pages: u64, text: &str) {
+    let length = places::store_length(capacity, nodes) as usize;
+    lines.begin(text, length);
+    let create = Call::Create(capacity, nodes, 0, length);
+    let appends = (0..pages).map(plan).map(|(rows, page)| Call::Append(rows, page));
+    [create].into_iter().chain(appends).for_each(|call| lines.make(&Step { call, off: 0 }));
+}
+
+/// The first k pages go, by both readers; the store after it with every word.
+fn cut_lines(lines: &mut Lines, k: usize) -> Result<(), String> {
+    let (start, end) = (lines.ledger.start, lines.ledger.end_of(k - 1));
+    let ids: Vec<u64> = lines.ledger.entries[..k].iter().map(|e| e.page).collect();
+    let (_, words) = pruned(&lines.ledger.words, k as u64, end);
+    for call in [Call::Prune(start, end, ids), Call::Check, Call::Walk(0)] {
+        lines.make(&Step { call, off: 0 });
+    }
+    lines.dump();
+    if lines.ledger.words == words { Ok(()) } else { Err(format!("the readers differ on a cut of {k} pages")) }
+}
+
+/// Every cut of every tree of up to so many pages, each with a page more and cut again, as lines for `store`. Up to four pages each
+/// cut comes after the wrong lists.
+fn record_at(lines: &mut Lines, capacity: u64, nodes: u64, pages: u64) -> Result<u64, String> {
+    let mut cuts = 0;
+    for (n, k) in (1..=pages).flat_map(|n| (1..=n).map(move |k| (n, k))) {
+        let text = format!("C = {capacity}, {n} pages: the first {k} go; a page more, and some go again");
+        grown(lines, capacity, nodes, n, &text);
+        if n <= 4 {
+            let tree = Tree::of(&lines.ledger);
+            for (start, end, ids, answer) in wrong(&tree, k as usize) {
+                let told = lines.output.len();
+                lines.make(&Step { call: Call::Prune(start, end, ids), off: 0 });
+                if lines.output[told..] != format!("no {} {}\n", answer[0], answer[2]) {
+                    return Err(format!("the readers differ on a refusal: {answer:?}"));
+                }
+            }
+        }
+        cut_lines(lines, k as usize)?;
+        let (rows, page) = plan(n);
+        lines.make(&Step { call: Call::Append(rows, page), off: 0 });
+        cut_lines(lines, 1 + (n * k % (n - k + 1)) as usize)?;
+        cuts += 2;
+    }
+    Ok(cuts)
+}
+
+/// Lines for `store`; false where the readers differ.
+pub fn record(lines: &mut Lines) -> bool {
+    let made = record_at(lines, 2, 12, 7).and_then(|a| record_at(lines, 3, 8, 7).map(|b| a + b));
+    match &made {
+        Ok(cuts) => println!("{cuts} cuts"),
+        Err(text) => println!("{text}"),
+    }
+    made.is_ok()
 }

@@ -2,6 +2,7 @@
 //! arguments are made from the ledger, so that calls are accepted, or refused at a limit.
 use crate::beside::{Beside, Call, Counts, Step};
 use crate::ledger::{LIMIT, Ledger, NONE};
+use crate::lines::{FILL, Lines};
 use crate::places;
 use crate::planted;
 use crate::progress::Progress;
@@ -226,40 +227,60 @@ fn burst(r: &mut Random, capacity: u64) -> u64 {
 fn history(seed: u64, capacity: u64) -> Option<Beside> {
     let mut r = Random::new(seed);
     let words = memory(seed, length(&mut r, capacity));
-    let mut beside = Beside::new(&words);
+    let turns = if r.below(40) == 0 { 5000 } else { 40 + r.below(300) };
+    calls(&mut r, seed, capacity, &words, turns, true).map(|(beside, _)| beside)
+}
+
+/// So many calls on these words, and bursts of appends; some begin with a planted store, where that is wanted.
+fn calls(r: &mut Random, seed: u64, capacity: u64, words: &[u64], turns: u64, plants: bool) -> Option<(Beside, Vec<Step>)> {
+    let mut beside = Beside::new(words);
     let mut steps = Vec::new();
-    let mut turns = if r.below(40) == 0 { 5000 } else { 40 + r.below(300) };
-    let (cuts, mut appends) = (2 + r.below(22), 0);
+    let (cuts, mut turns, mut appends) = (2 + r.below(22), turns, 0);
     while turns > 0 {
         let ledger = &beside.ledger;
         let entries = ledger.entries.len();
         let call = match steps.len() {
             // Memory for 560 nodes at C = 2 is there for the highest trees.
-            0 if r.below(4) == 0 || (capacity == 2 && words.len() > 560 * 8 && r.below(4) > 0) => {
-                Call::Plant(Box::new(planted::random(&mut r, capacity as usize, words.len())))
+            0 if plants && (r.below(4) == 0 || (capacity == 2 && words.len() > 560 * 8 && r.below(4) > 0)) => {
+                Call::Plant(Box::new(planted::random(r, capacity as usize, words.len())))
             }
             1 => Call::Sweep,
-            _ if !ledger.made && r.below(4) > 0 => create(&mut r, words.len(), capacity),
+            _ if !ledger.made && r.below(4) > 0 => create(r, words.len(), capacity),
             _ if appends > 0 => Call::Append(1 + r.below(5), r.word()),
-            _ => call(&mut r, ledger, capacity, cuts),
+            _ => call(r, ledger, capacity, cuts),
         };
         let off = [-1, 1, 8].get(r.below(400) as usize).copied().unwrap_or(0);
         let step = Step { call, off };
         let fault = beside.make(&step);
         steps.push(step);
         if fault.is_err() {
-            tell(seed, &words, steps);
+            tell(seed, words, steps);
             return None;
         }
         // A refused append ends a burst.
         if appends > 0 && beside.ledger.entries.len() > entries {
             appends -= 1;
         } else {
-            appends = burst(&mut r, capacity);
+            appends = burst(r, capacity);
             turns -= 1;
         }
     }
-    Some(beside)
+    Some((beside, steps))
+}
+
+/// Some short histories at C = 2 to 5 and 16 as lines for `store`; false where one differs.
+pub fn record(lines: &mut Lines) -> bool {
+    for k in 0..40 {
+        let capacity = CAPACITIES[k as usize % 5];
+        let mut r = Random::new(k);
+        let nodes = if capacity == 16 { 1 + r.below(6) } else { 1 + r.below(15) };
+        let words = vec![FILL; places::store_length(capacity, nodes) as usize + r.below(9) as usize];
+        let Some((_, steps)) = calls(&mut r, k, capacity, &words, 50, false) else { return false };
+        lines.begin(&format!("History {k} at C = {capacity}, in {} words", words.len()), words.len());
+        steps.iter().for_each(|step| lines.make(step));
+        lines.end();
+    }
+    true
 }
 
 /// A store at the limits of C and P, or one past them, in memory of exactly its length. None where something differs.

@@ -128,6 +128,23 @@ impl Ledger {
         if order.is_empty() { vec![self.root] } else { order }
     }
 
+    /// Number, height, count, start and end of each node in reading order, a line each: with an entry come the nodes that begin
+    /// with it, the highest first.
+    pub fn shape(&self) -> String {
+        if self.entries.is_empty() {
+            return format!("node {} 0 0 {} {NONE}\n", self.root, self.start);
+        }
+        let mut text = String::new();
+        for (j, entry) in self.entries.iter().enumerate() {
+            for (h, Begun { number, end }) in entry.nodes.iter().enumerate().rev() {
+                let slots = self.slots(h, j);
+                let end = if h == 0 { self.end_of(slots[slots.len() - 1]) } else { *end };
+                text += &format!("node {number} {h} {} {} {end}\n", slots.len(), entry.row);
+            }
+        }
+        text
+    }
+
     fn first(&self, number: u64) -> usize {
         places::first(self.capacity, number as usize)
     }

@@ -1,5 +1,5 @@
 //! Small trees with the plan by which they were made: grown by calls, or planted whether calls reach them or not.
-use crate::ledger::done;
+use crate::ledger::{Ledger, done};
 use crate::places;
 use crate::planted::{self, Outline};
 use crate::seeded::Random;
@@ -24,7 +24,7 @@ impl Display for Tree {
 }
 
 /// The rows of page i, and its id. The ids do not rise, and some come again.
-fn plan(i: u64) -> (u64, u64) {
+pub fn plan(i: u64) -> (u64, u64) {
     (1 + i % 3, 1000 + i * i % 97)
 }
 
@@ -37,6 +37,13 @@ impl Tree {
         lent::create(&mut words, capacity, nodes, 0, &mut answer);
         let tree = Tree { words, pages: vec![], end: 0, made: 0, story: "create".into() };
         if answer == done([]) { Ok(tree) } else { Err(format!("create {capacity} {nodes} 0: {answer:?}")) }
+    }
+
+    /// The store of a ledger.
+    pub fn of(ledger: &Ledger) -> Tree {
+        let pages: Vec<(u64, u64)> = ledger.entries.iter().map(|e| (e.row, e.page)).collect();
+        let made = pages.len() as u64;
+        Tree { words: ledger.words.clone(), pages, end: ledger.end, made, story: "lines".into() }
     }
 
     pub fn start(&self) -> u64 {

@@ -1,9 +1,8 @@
 // Lines of text from standard input, each a call on a store of the program's own or a look at it; their answers to standard
 // output, a line each. `docs/STORE.md` lists them. A wrong line is named with its number and changes nothing.
 
+use store_message::wrong;
 use store_print;
-use store_print::wrong;
-use store_print::wrong::Wrong;
 use store_step;
 use store_step::Step;
 use store_step::kind;
@@ -23,34 +22,45 @@ struct Progress {
     goes: bool,
 }
 
-fn refuse(settings: Settings, at: usize, wrong: Wrong) -> Step {
-    Step {
-        settings,
-        at,
-        wrong,
-    }
-}
-
-// A line with this first word and so many numbers.
+// A line with this first word, which asks for k, and so many numbers.
 fn take_numbers(
     b: &[u8],
     w: Word,
+    k: u64,
     all: &mut [u64],
     n: &[u64],
     pages: &mut [u64],
     t: Settings,
     out: &mut [u8],
     at: usize,
+    line: u64,
 ) -> Step {
-    let k = kind::kind_of(b, w);
-    let sizes = kind::sizes_of(k);
-    if n.len() < sizes.least {
-        return refuse(t, at, Wrong::TooFewNumbers);
+    let count = n.len() as u64;
+    let least = kind::least_of(k);
+    let most = kind::most_of(k);
+    let what = kind::wrong_count(count, least, most);
+    if what == wrong::NOTHING {
+        return store_step::perform(k, all, n, pages, t, out, at);
     }
-    if sizes.most < n.len() {
-        return refuse(t, at, Wrong::TooManyNumbers);
-    }
-    store_step::perform(k, all, n, pages, t, out, at)
+    let wanted = kind::wanted_of(least, most);
+    let place = wrong::put_wrong(out, at, line, what, count, wanted, b, w);
+    store_step::right(t, place)
+}
+
+// A line with a word that is no number below 2^64.
+fn refuse_number(
+    b: &[u8],
+    len: usize,
+    from: usize,
+    what: u64,
+    t: Settings,
+    out: &mut [u8],
+    at: usize,
+    line: u64,
+) -> Step {
+    let w = number::wrong_word(b, len, from);
+    let place = wrong::put_wrong(out, at, line, what, 0, 0, b, w);
+    store_step::right(t, place)
 }
 
 // A line that is no comment, from its first word on.
@@ -64,18 +74,22 @@ fn take_word(
     t: Settings,
     out: &mut [u8],
     at: usize,
+    line: u64,
 ) -> Step {
-    if !kind::is_known(b, w) {
-        return refuse(t, at, Wrong::NoSuchName);
+    let k = kind::kind_of(b, w);
+    if kind::PICTURE < k {
+        let place = wrong::put_wrong(out, at, line, wrong::NO_SUCH_NAME, 0, 0, b, w);
+        return store_step::right(t, place);
     }
     match number::read_numbers(b, len, w.to, n) {
-        Numbers::NoNumber => refuse(t, at, Wrong::NoNumber),
-        Numbers::TooLarge => refuse(t, at, Wrong::NumberTooLarge),
+        Numbers::NoNumber => refuse_number(b, len, w.to, wrong::NO_NUMBER, t, out, at, line),
+        Numbers::TooLarge => refuse_number(b, len, w.to, wrong::NUMBER_TOO_LARGE, t, out, at, line),
         Numbers::All(count) => {
+            // A line has room for fewer.
             if n.len() < count {
-                return refuse(t, at, Wrong::TooManyNumbers);
+                return store_step::right(t, at);
             }
-            take_numbers(b, w, all, &n[0..count], pages, t, out, at)
+            take_numbers(b, w, k, all, &n[0..count], pages, t, out, at, line)
         }
     }
 }
@@ -90,23 +104,32 @@ fn take_line(
     t: Settings,
     out: &mut [u8],
     at: usize,
+    line: u64,
 ) -> Step {
     if 65535 < len {
-        return refuse(t, at, Wrong::LineTooLong);
+        return store_step::refuse(t, at, wrong::LINE_TOO_LONG);
     }
     let end = line::before_comment(b, len);
     let w = line::next_word(b, end, 0);
     if w.from == w.to {
-        return refuse(t, at, Wrong::Nothing);
+        return store_step::right(t, at);
     }
-    take_word(b, end, w, all, n, pages, t, out, at)
+    take_word(b, end, w, all, n, pages, t, out, at, line)
 }
 
-// After a line: the message where it was wrong; and all that was written goes out before the program waits for input.
-fn end_line(out: &mut [u8], step: Step, line: u64, input: Input) -> usize {
-    let what = step.wrong;
+// The message of a step that was wrong.
+fn put_message(out: &mut [u8], b: &[u8], step: Step, line: u64) -> usize {
     let place = store_print::room(out, step.at);
-    let place = wrong::put_wrong(out, place, line, what);
+    if step.wrong == wrong::NOTHING {
+        return place;
+    }
+    let no_word = Word { from: 0, to: 0 };
+    wrong::put_wrong(out, place, line, step.wrong, 0, 0, b, no_word)
+}
+
+// After a line: all that was written goes out before the program waits for input.
+fn end_line(out: &mut [u8], b: &[u8], step: Step, line: u64, input: Input) -> usize {
+    let place = put_message(out, b, step, line);
     if input.at < input.end {
         return place;
     }
@@ -136,12 +159,12 @@ fn turn(
             goes: false,
         };
     }
-    let step = take_line(b, l.len, all, n, pages, settings, out, from.at);
+    let step = take_line(b, l.len, all, n, pages, settings, out, from.at, lines);
     let after = step.settings;
     Progress {
         settings: after,
         input: rest,
-        at: end_line(out, step, lines, rest),
+        at: end_line(out, b, step, lines, rest),
         goes: true,
     }
 }

@@ -1,71 +1,23 @@
 // The line that says what is wrong with a store that the full check refuses.
 
-use crate::draw;
 use crate::fault;
 use crate::fault::Fault;
 use crate::visit;
+use model::answer::Checked;
 use model::answer::Refusal;
 use model::id::NodeNo;
 use model::node::RowPageIndexNodeHeader;
 use model::path::Path;
-use node_read::header;
-use node_read::header::Opened;
 use node_read::layout::Layout;
+use store_message;
 use store_print;
 use store_words;
 
-// A value and another, with words between and after.
-fn put_two(out: &mut [u8], at: usize, what: &[u8], is: u64, between: &[u8], other: u64) -> usize {
-    let place = script_text::put_bytes(out, at, what);
-    let place = draw::put_end(out, place, is);
-    let place = script_text::put_bytes(out, place, between);
-    draw::put_end(out, place, other)
-}
-
 fn put_fault(out: &mut [u8], at: usize, f: Fault) -> usize {
-    match f {
-        Fault::Nothing => at,
-        Fault::Height(a, b) => put_two(out, at, b"its height is ", a, b", wanted ", b),
-        Fault::Count(a, b) => put_two(out, at, b"its count is ", a, b", wanted 1 to ", b),
-        Fault::Start(a, b) => put_two(out, at, b"its start is ", a, b", wanted ", b),
-        Fault::FirstRow(a, b) => put_two(out, at, b"its first row is ", a, b", wanted ", b),
-        Fault::RowNotAbove(a, b) => put_two(
-            out,
-            at,
-            b"row ",
-            a,
-            b" is not above the row before it, entry ",
-            b,
-        ),
-        Fault::LowEnd(a, b) => put_two(
-            out,
-            at,
-            b"its end is ",
-            a,
-            b", wanted above its last row ",
-            b,
-        ),
-        Fault::HighEnd(a, b) => put_two(out, at, b"its end is ", a, b", wanted at most ", b),
-        Fault::OtherEnd(a, b) => put_two(out, at, b"its end is ", a, b", wanted the next row ", b),
-        Fault::Child(a, b) => put_two(out, at, b"its child number ", a, b" is not below ", b),
-        Fault::NotNone(a, b) => put_two(out, at, b"its end is ", a, b", wanted ", b),
-        Fault::NotNoneNor(a, b) => put_two(
-            out,
-            at,
-            b"its end is ",
-            a,
-            b", wanted NONE or the next row ",
-            b,
-        ),
-        Fault::HighStart(a, b) => put_two(out, at, b"its start is ", a, b", wanted at most ", b),
-    }
-}
-
-fn is_nothing(f: Fault) -> bool {
-    match f {
-        Fault::Nothing => true,
-        _ => false,
-    }
+    let texts =
+        b"|its height is %, wanted %|its count is %, wanted 1 to %|its start is &, wanted &|its first row is &, wanted &|row & is not above the row before it, entry %|its end is &, wanted above its last row &|its end is &, wanted at most &|its end is &, wanted the next row &|its child number % is not below %|its end is &, wanted NONE|its end is &, wanted NONE or the next row &|its start is &, wanted at most &|a capacity of 2 to 4,094 is wanted, not %|1 to 65,535 nodes are wanted, not %|% words are lent, such a store has %|the root's number is %, wanted at most %|the first free number is %, wanted at most %|the free count is %, wanted at most %|the chain has % nodes, the free count is %|after the last free node stands %, wanted %|node % is in the chain and is not free|tree and free nodes do not add up to all nodes|% words are lent, a header has 8";
+    let place = store_message::put_message(out, at, texts, f.text, f.is, f.wanted);
+    script_text::put_byte(out, place, b'\n')
 }
 
 // What is wrong with the node that a path leads to.
@@ -90,64 +42,43 @@ fn find_fault(s: &[u64], n: u64) -> Fault {
     let mut more = store_words::word(s, 1);
     while 0 < more {
         if path.depth == 0 {
-            return Fault::Nothing;
+            return fault::nothing();
         }
         if visit::node_of(path) == n {
             let f = fault_at(s, path);
-            if !is_nothing(f) {
+            if f.text != 0 {
                 return f;
             }
         }
         path = visit::next(s, path);
         more -= 1;
     }
-    Fault::Nothing
-}
-
-fn put_node(out: &mut [u8], at: usize, s: &[u64], n: u64) -> usize {
-    let place = script_text::put_bytes(out, at, b"wrong: ");
-    let place = draw::put_node_no(out, place, n);
-    let place = script_text::put_bytes(out, place, b": ");
-    let place = put_fault(out, place, find_fault(s, n));
-    script_text::put_byte(out, place, b'\n')
+    fault::nothing()
 }
 
 // Capacity, nodes and length of a header that makes no store.
-fn put_size(out: &mut [u8], at: usize, l: Layout) -> usize {
-    if l.capacity < Layout::MIN_CAPACITY {
-        return script_text::put_line1(
-            out,
-            at,
-            b"wrong: a capacity of 2 to 4,094 is wanted, not",
-            l.capacity,
-        );
+fn fault_of_size(s: &[u64], l: Layout) -> Fault {
+    let capacity = l.capacity;
+    let pool = l.pool;
+    if capacity < Layout::MIN_CAPACITY {
+        return fault::told(fault::CAPACITY, capacity, 0);
     }
-    if Layout::MAX_CAPACITY < l.capacity {
-        return script_text::put_line1(
-            out,
-            at,
-            b"wrong: a capacity of 2 to 4,094 is wanted, not",
-            l.capacity,
-        );
+    if Layout::MAX_CAPACITY < capacity {
+        return fault::told(fault::CAPACITY, capacity, 0);
     }
-    if l.pool < Layout::MIN_POOL {
-        return script_text::put_line1(out, at, b"wrong: 1 to 65,535 nodes are wanted, not", l.pool);
+    if pool < Layout::MIN_POOL {
+        return fault::told(fault::NODES, pool, 0);
     }
-    if Layout::MAX_POOL < l.pool {
-        return script_text::put_line1(out, at, b"wrong: 1 to 65,535 nodes are wanted, not", l.pool);
+    if Layout::MAX_POOL < pool {
+        return fault::told(fault::NODES, pool, 0);
     }
-    script_text::put_line1(
-        out,
-        at,
-        b"wrong: the words that are lent; such a store has",
-        l.store_length(),
-    )
+    fault::told(fault::LENGTH, s.len() as u64, l.store_length())
 }
 
-// The words of a header that make no store.
-pub fn put_header(out: &mut [u8], at: usize, s: &[u64]) -> usize {
+// The words of a header that make no store; none of an open store.
+fn fault_of_header(s: &[u64]) -> Fault {
     if s.len() < 8 {
-        return script_text::put_line(out, at, b"wrong: fewer than 8 words are lent");
+        return fault::told(fault::NO_HEADER, s.len() as u64, 0);
     }
     let pool = s[1];
     let l = Layout {
@@ -156,63 +87,80 @@ pub fn put_header(out: &mut [u8], at: usize, s: &[u64]) -> usize {
     };
     let fits = l.fits(s);
     if !fits {
-        return put_size(out, at, l);
+        return fault_of_size(s, l);
     }
     if pool < s[2] {
-        return script_text::put_line1(out, at, b"wrong: the root's number is", s[2]);
+        return fault::told(fault::ROOT, s[2], pool);
     }
     if pool < s[3] {
-        return script_text::put_line1(out, at, b"wrong: the first free number is", s[3]);
+        return fault::told(fault::FIRST_FREE, s[3], pool);
     }
-    script_text::put_line1(out, at, b"wrong: the free count is", s[4])
+    if pool < s[4] {
+        return fault::told(fault::FREE_COUNT, s[4], pool);
+    }
+    fault::nothing()
+}
+
+// A chain that has as many nodes as the free count says, and this number after them.
+fn fault_after_chain(s: &[u64], n: u64) -> Fault {
+    let pool = store_words::word(s, 1);
+    if n == pool {
+        return fault::told(fault::SUM, 0, 0);
+    }
+    fault::told(fault::LONG_CHAIN, n, pool)
 }
 
 // A chain that does not end with P after the free count's nodes; or a tree and a chain that do not hold all nodes.
-fn put_chain(out: &mut [u8], at: usize, s: &[u64]) -> usize {
-    let pool = store_words::word(s, 1);
+fn fault_of_chain(s: &[u64]) -> Fault {
     let free = store_words::word(s, 4);
     let mut n = store_words::word(s, 3);
     let mut k: u64 = 0;
     while k < Layout::MAX_POOL {
         if free <= k {
-            if n == pool {
-                return script_text::put_line(
-                    out,
-                    at,
-                    b"wrong: tree and free nodes do not add up to all nodes",
-                );
-            }
-            return script_text::put_line1(out, at, b"wrong: after the last free node stands", n);
+            return fault_after_chain(s, n);
         }
-        if pool <= n {
-            return script_text::put_line1(
-                out,
-                at,
-                b"wrong: so many free nodes are in the chain:",
-                k,
-            );
+        if store_words::word(s, 1) <= n {
+            return fault::told(fault::SHORT_CHAIN, k, free);
         }
         if store_words::part(s, n, 0) != RowPageIndexNodeHeader::FREE_MARK {
-            return script_text::put_line1(out, at, b"wrong: in the chain, not free: node", n);
+            return fault::told(fault::NOT_FREE, n, 0);
         }
         n = store_words::part(s, n, 1);
         k += 1;
     }
-    at
+    fault_after_chain(s, n)
 }
 
-// What is wrong with an open store; a closed one, or one whose header is wrong, has its line already.
-pub fn put_refusal(out: &mut [u8], at: usize, s: &[u64], r: Refusal) -> usize {
+fn fault_of_store(s: &[u64]) -> Fault {
+    let f = fault_of_header(s);
+    if f.text != 0 {
+        return f;
+    }
+    fault_of_chain(s)
+}
+
+// What is wrong with a node, or with the header, the chain or the counts.
+fn put_unsound(out: &mut [u8], at: usize, s: &[u64], n: u64) -> usize {
     let place = store_print::room(out, at);
-    match header::open(s) {
-        Opened::Refused(_) => place,
-        Opened::Open(_) => match r {
-            Refusal::Unsound(n) => if n.0 == NodeNo::HEADER {
-                put_chain(out, place, s)
-            } else {
-                put_node(out, place, s, n.0)
-            },
-            _ => place,
+    if n == NodeNo::HEADER {
+        let place = script_text::put_bytes(out, place, b"wrong: ");
+        return put_fault(out, place, fault_of_store(s));
+    }
+    let place = store_message::put_message(out, place, b"wrong: #%: ", 0, n, 0);
+    put_fault(out, place, find_fault(s, n))
+}
+
+// What is wrong with the store by the check's answer; nothing with one that is closed.
+pub fn put_wrong(out: &mut [u8], at: usize, s: &[u64], a: Checked) -> usize {
+    match a {
+        Checked::Refused(r) => match r {
+            Refusal::Unsound(n) => put_unsound(out, at, s, n.0),
+            _ => at,
         },
+        Checked::WellFormed {
+            entries: _,
+            nodes: _,
+            free: _,
+        } => at,
     }
 }

@@ -4,21 +4,66 @@ use model::node::RowPageIndexNodeHeader;
 use node_test::Limit;
 use store_words;
 
-// A value and the one that is wanted, or the one that it must be above or below.
-pub enum Fault {
-    Nothing,
-    Height(u64, u64),
-    Count(u64, u64),
-    Start(u64, u64),
-    FirstRow(u64, u64),
-    RowNotAbove(u64, u64),
-    LowEnd(u64, u64),
-    HighEnd(u64, u64),
-    OtherEnd(u64, u64),
-    Child(u64, u64),
-    NotNone(u64, u64),
-    NotNoneNor(u64, u64),
-    HighStart(u64, u64),
+// The texts of `explain`, by their places.
+pub const HEIGHT: u64 = 1;
+
+pub const COUNT: u64 = 2;
+
+pub const START: u64 = 3;
+
+pub const FIRST_ROW: u64 = 4;
+
+pub const ROW: u64 = 5;
+
+pub const LOW_END: u64 = 6;
+
+pub const HIGH_END: u64 = 7;
+
+pub const OTHER_END: u64 = 8;
+
+pub const CHILD: u64 = 9;
+
+pub const NOT_NONE: u64 = 10;
+
+pub const NOT_NONE_NOR: u64 = 11;
+
+pub const HIGH_START: u64 = 12;
+
+pub const CAPACITY: u64 = 13;
+
+pub const NODES: u64 = 14;
+
+pub const LENGTH: u64 = 15;
+
+pub const ROOT: u64 = 16;
+
+pub const FIRST_FREE: u64 = 17;
+
+pub const FREE_COUNT: u64 = 18;
+
+pub const SHORT_CHAIN: u64 = 19;
+
+pub const LONG_CHAIN: u64 = 20;
+
+pub const NOT_FREE: u64 = 21;
+
+pub const SUM: u64 = 22;
+
+pub const NO_HEADER: u64 = 23;
+
+// The place of its text, a value, and the one that is wanted, or the one that it must be above or below.
+pub struct Fault {
+    pub text: u64,
+    pub is: u64,
+    pub wanted: u64,
+}
+
+pub fn told(text: u64, is: u64, wanted: u64) -> Fault {
+    Fault { text, is, wanted }
+}
+
+pub fn nothing() -> Fault {
+    told(0, 0, 0)
 }
 
 // The first row that is not above the one before it; the count where all are.
@@ -45,102 +90,110 @@ fn first_out(s: &[u64], n: u64, count: u64) -> u64 {
     count
 }
 
-fn fault_of_leaf_end(end: u64, last: u64, next: Limit) -> Fault {
-    if end <= last {
-        return Fault::LowEnd(end, last);
-    }
-    if RowPageIndexNodeHeader::ROW_LIMIT < end {
-        return Fault::HighEnd(end, RowPageIndexNodeHeader::ROW_LIMIT);
-    }
+// An end that is not the next row, where there is one.
+fn fault_of_next(end: u64, next: Limit, open: Fault, text: u64) -> Fault {
     match next {
-        Limit::Open => Fault::Nothing,
-        Limit::Below(row) => if end == row.0 {
-            Fault::Nothing
-        } else {
-            Fault::OtherEnd(end, row.0)
-        },
+        Limit::Open => open,
+        Limit::Below(row) => {
+            if end == row.0 {
+                return nothing();
+            }
+            told(text, end, row.0)
+        }
     }
+}
+
+fn fault_of_leaf_end(end: u64, next: Limit) -> Fault {
+    if RowPageIndexNodeHeader::ROW_LIMIT < end {
+        return told(HIGH_END, end, RowPageIndexNodeHeader::ROW_LIMIT);
+    }
+    fault_of_next(end, next, nothing(), OTHER_END)
 }
 
 // A branch's end that only the full check refuses.
 fn fault_of_branch_end(end: u64, next: Limit) -> Fault {
     if end == RowPageIndexNodeHeader::NONE {
-        return Fault::Nothing;
+        return nothing();
     }
-    match next {
-        Limit::Open => Fault::NotNone(end, RowPageIndexNodeHeader::NONE),
-        Limit::Below(row) => if end == row.0 {
-            Fault::Nothing
-        } else {
-            Fault::NotNoneNor(end, row.0)
-        },
-    }
+    fault_of_next(end, next, told(NOT_NONE, end, 0), NOT_NONE_NOR)
 }
 
-// Rows, child numbers and end of a node whose count is in range.
-fn fault_of_entries(s: &[u64], n: u64, height: u64, next: Limit) -> Fault {
-    let count = store_words::entries(s, n);
-    let fall = first_fall(s, n, count);
-    if fall < count {
-        return Fault::RowNotAbove(store_words::row(s, n, fall), fall);
-    }
+// Child numbers and end of a node whose rows rise up to this one.
+fn fault_of_end(s: &[u64], n: u64, count: u64, last: u64, next: Limit) -> Fault {
     let end = store_words::part(s, n, 3);
-    if count == 0 {
-        return Fault::Nothing;
-    }
-    let last = store_words::row(s, n, count - 1);
-    if height == 0 {
-        return fault_of_leaf_end(end, last, next);
-    }
     if end <= last {
-        return Fault::LowEnd(end, last);
+        return told(LOW_END, end, last);
+    }
+    if store_words::part(s, n, 0) == 0 {
+        return fault_of_leaf_end(end, next);
     }
     let out = first_out(s, n, count);
     if out < count {
-        return Fault::Child(store_words::child(s, n, out), store_words::word(s, 1));
+        return told(
+            CHILD,
+            store_words::child(s, n, out),
+            store_words::word(s, 1),
+        );
     }
     fault_of_branch_end(end, next)
+}
+
+// Rows, child numbers and end of a node whose count is in range.
+fn fault_of_entries(s: &[u64], n: u64, next: Limit) -> Fault {
+    let count = store_words::entries(s, n);
+    let fall = first_fall(s, n, count);
+    if fall < count {
+        return told(ROW, store_words::row(s, n, fall), fall);
+    }
+    if count == 0 {
+        return nothing();
+    }
+    fault_of_end(s, n, count, store_words::row(s, n, count - 1), next)
 }
 
 // A node that should have this height, under an entry of this row.
 pub fn fault_of(s: &[u64], n: u64, height: u64, row: u64, next: Limit) -> Fault {
     let is = store_words::part(s, n, 0);
     if is != height {
-        return Fault::Height(is, height);
+        return told(HEIGHT, is, height);
     }
+    let capacity = store_words::word(s, 0);
     let count = store_words::part(s, n, 1);
     if count == 0 {
-        return Fault::Count(count, store_words::word(s, 0));
+        return told(COUNT, count, capacity);
     }
-    if store_words::word(s, 0) < count {
-        return Fault::Count(count, store_words::word(s, 0));
+    if capacity < count {
+        return told(COUNT, count, capacity);
     }
     let start = store_words::part(s, n, 2);
     if start != row {
-        return Fault::Start(start, row);
+        return told(START, start, row);
     }
     let first = store_words::row(s, n, 0);
     if first != row {
-        return Fault::FirstRow(first, row);
+        return told(FIRST_ROW, first, row);
     }
-    fault_of_entries(s, n, height, next)
+    fault_of_entries(s, n, next)
 }
 
-// A root; an empty one has its own rule.
+// An empty root has its own rule.
+fn fault_of_empty(start: u64, end: u64) -> Fault {
+    if RowPageIndexNodeHeader::ROW_LIMIT < start {
+        return told(HIGH_START, start, RowPageIndexNodeHeader::ROW_LIMIT);
+    }
+    if end == RowPageIndexNodeHeader::NONE {
+        return nothing();
+    }
+    told(NOT_NONE, end, 0)
+}
+
 pub fn fault_of_root(s: &[u64], n: u64, height: u64) -> Fault {
+    let start = store_words::part(s, n, 2);
     if store_words::part(s, n, 0) != 0 {
-        return fault_of(s, n, height, store_words::part(s, n, 2), Limit::Open);
+        return fault_of(s, n, height, start, Limit::Open);
     }
     if store_words::part(s, n, 1) != 0 {
-        return fault_of(s, n, height, store_words::part(s, n, 2), Limit::Open);
+        return fault_of(s, n, height, start, Limit::Open);
     }
-    let start = store_words::part(s, n, 2);
-    if RowPageIndexNodeHeader::ROW_LIMIT < start {
-        return Fault::HighStart(start, RowPageIndexNodeHeader::ROW_LIMIT);
-    }
-    let end = store_words::part(s, n, 3);
-    if end == RowPageIndexNodeHeader::NONE {
-        return Fault::Nothing;
-    }
-    Fault::NotNone(end, RowPageIndexNodeHeader::NONE)
+    fault_of_empty(start, store_words::part(s, n, 3))
 }

@@ -1,7 +1,5 @@
 // What the store program writes: lines in lent bytes, which go to standard output when they are nearly full.
 
-pub mod wrong;
-
 use answer_numbers;
 use libc::STDOUT_FILENO;
 use model::answer::Checked;

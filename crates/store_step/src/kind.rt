@@ -1,162 +1,117 @@
-// What a line asks for, by its first word, and how many numbers it has.
+// What a line asks for, by the place of its first word, and how many numbers it takes.
 
 use store_calls::Call;
+use store_message::wrong;
 use store_text::line;
 use store_text::line::Word;
+use store_text::number;
 
-// What is done to the words without a call.
-pub enum Tool {
-    Set,
-    Put,
-    Fill,
-    Load,
-    Dump,
-    Chain,
-    Shape,
-    Picture,
+// The names in groups: a create, the calls of `store_calls`, the walk, what is lent, the words.
+pub const CREATE: u64 = 0;
+
+pub const LAST_CALL: u64 = 6;
+
+pub const SEEK: u64 = 7;
+
+pub const NEXT: u64 = 8;
+
+pub const WALK: u64 = 9;
+
+pub const CURSOR: u64 = 10;
+
+pub const WORDS: u64 = 11;
+
+pub const LIST: u64 = 12;
+
+pub const SET: u64 = 13;
+
+pub const PUT: u64 = 14;
+
+pub const FILL: u64 = 15;
+
+pub const LOAD: u64 = 16;
+
+pub const DUMP: u64 = 17;
+
+pub const CHAIN: u64 = 18;
+
+pub const SHAPE: u64 = 19;
+
+pub const PICTURE: u64 = 20;
+
+pub fn kind_of(b: &[u8], w: Word) -> u64 {
+    line::find_name(
+        b,
+        w,
+        b"create|append|find|prune|release|release_empty|check|seek|next|walk|cursor|words|list|set|put|fill|load|dump|chain|shape|picture",
+    )
 }
 
-pub enum Kind {
-    Nothing,
-    Create,
-    Words,
-    List,
-    Seek,
-    Next,
-    Walk,
-    Cursor,
-    Call(Call),
-    Tool(Tool),
+// One of the calls from 1 to 6.
+pub fn call_of(k: u64) -> Call {
+    if k == 1 {
+        return Call::Append;
+    }
+    if k == 2 {
+        return Call::Find;
+    }
+    if k == 3 {
+        return Call::Prune;
+    }
+    if k == 4 {
+        return Call::Release;
+    }
+    if k == 5 {
+        return Call::ReleaseEmpty;
+    }
+    Call::Check
 }
 
-// The fewest and the most numbers of a line.
-pub struct Sizes {
-    pub least: usize,
-    pub most: usize,
+// The digit for a kind.
+fn digit_of(digits: &[u8], k: u64) -> u64 {
+    number::digit(line::byte_at(digits, k as usize))
 }
 
-fn tool_of(b: &[u8], w: Word) -> Kind {
-    if line::is_name(b, w, b"set") {
-        return Kind::Tool(Tool::Set);
-    }
-    if line::is_name(b, w, b"put") {
-        return Kind::Tool(Tool::Put);
-    }
-    if line::is_name(b, w, b"fill") {
-        return Kind::Tool(Tool::Fill);
-    }
-    if line::is_name(b, w, b"load") {
-        return Kind::Tool(Tool::Load);
-    }
-    if line::is_name(b, w, b"dump") {
-        return Kind::Tool(Tool::Dump);
-    }
-    if line::is_name(b, w, b"chain") {
-        return Kind::Tool(Tool::Chain);
-    }
-    if line::is_name(b, w, b"shape") {
-        return Kind::Tool(Tool::Shape);
-    }
-    if line::is_name(b, w, b"picture") {
-        return Kind::Tool(Tool::Picture);
-    }
-    Kind::Nothing
+// The fewest and the most numbers of a kind, in the order of the names. 9: as many as a line has room for.
+pub fn least_of(k: u64) -> u64 {
+    digit_of(b"321210010100023120000", k)
 }
 
-fn other_of(b: &[u8], w: Word) -> Kind {
-    if line::is_name(b, w, b"words") {
-        return Kind::Words;
-    }
-    if line::is_name(b, w, b"list") {
-        return Kind::List;
-    }
-    if line::is_name(b, w, b"seek") {
-        return Kind::Seek;
-    }
-    if line::is_name(b, w, b"next") {
-        return Kind::Next;
-    }
-    if line::is_name(b, w, b"walk") {
-        return Kind::Walk;
-    }
-    if line::is_name(b, w, b"cursor") {
-        return Kind::Cursor;
-    }
-    tool_of(b, w)
+pub fn most_of(k: u64) -> u64 {
+    digit_of(b"321910010101123192000", k)
 }
 
-pub fn kind_of(b: &[u8], w: Word) -> Kind {
-    if line::is_name(b, w, b"create") {
-        return Kind::Create;
+// The number that a message names.
+pub fn wanted_of(least: u64, most: u64) -> u64 {
+    if most == 9 {
+        return least;
     }
-    if line::is_name(b, w, b"append") {
-        return Kind::Call(Call::Append);
-    }
-    if line::is_name(b, w, b"find") {
-        return Kind::Call(Call::Find);
-    }
-    if line::is_name(b, w, b"prune") {
-        return Kind::Call(Call::Prune);
-    }
-    if line::is_name(b, w, b"release") {
-        return Kind::Call(Call::Release);
-    }
-    if line::is_name(b, w, b"release_empty") {
-        return Kind::Call(Call::ReleaseEmpty);
-    }
-    if line::is_name(b, w, b"check") {
-        return Kind::Call(Call::Check);
-    }
-    other_of(b, w)
+    most
 }
 
-// Whether a word names something.
-pub fn is_known(b: &[u8], w: Word) -> bool {
-    match kind_of(b, w) {
-        Kind::Nothing => false,
-        _ => true,
+// What is wrong with so many numbers.
+pub fn wrong_count(n: u64, least: u64, most: u64) -> u64 {
+    if n == least {
+        return wrong::NOTHING;
     }
+    if most == 9 {
+        return wrong_of_more(n, least);
+    }
+    if n == most {
+        return wrong::NOTHING;
+    }
+    if least < most {
+        return wrong::NOT_NONE_OR;
+    }
+    if n < least {
+        return wrong::TOO_FEW;
+    }
+    wrong::TOO_MANY
 }
 
-fn between(least: usize, most: usize) -> Sizes {
-    Sizes { least, most }
-}
-
-fn call_sizes(c: Call) -> Sizes {
-    match c {
-        Call::Append => between(2, 2),
-        Call::Find => between(1, 1),
-        Call::Prune => between(2, 32768),
-        Call::Release => between(1, 1),
-        Call::ReleaseEmpty => between(0, 0),
-        Call::Check => between(0, 0),
+fn wrong_of_more(n: u64, least: u64) -> u64 {
+    if n < least {
+        return wrong::TOO_FEW_OF_MORE;
     }
-}
-
-fn tool_sizes(t: Tool) -> Sizes {
-    match t {
-        Tool::Set => between(2, 2),
-        Tool::Put => between(3, 3),
-        Tool::Fill => between(1, 1),
-        Tool::Load => between(2, 32768),
-        Tool::Dump => between(0, 2),
-        Tool::Chain => between(0, 0),
-        Tool::Shape => between(0, 0),
-        Tool::Picture => between(0, 0),
-    }
-}
-
-pub fn sizes_of(k: Kind) -> Sizes {
-    match k {
-        Kind::Nothing => between(0, 32768),
-        Kind::Create => between(3, 3),
-        Kind::Words => between(0, 1),
-        Kind::List => between(0, 1),
-        Kind::Seek => between(1, 1),
-        Kind::Next => between(0, 0),
-        Kind::Walk => between(1, 1),
-        Kind::Cursor => between(0, 0),
-        Kind::Call(c) => call_sizes(c),
-        Kind::Tool(t) => tool_sizes(t),
-    }
+    wrong::NOTHING
 }

@@ -1,6 +1,7 @@
 // Lines of standard input, and their words.
 
 ghost use Prim.Native.Nat.{_≤_};
+ghost use lib.ListN.{length};
 use libc::STDIN_FILENO;
 
 // What is left of the block that was read last.
@@ -124,6 +125,42 @@ pub fn is_name(b: &[u8], w: Word, name: &[u8]) -> bool {
         i += 1;
     }
     true
+}
+
+// The first bar from a place on, or the end.
+fn find_bar(names: &[u8], from: usize) -> usize
+    requires { ⌜ from ≤ length (now names) ⌝ }
+    ensures { λ r. ⌜ (from ≤ r) × (r ≤ length (now (names .entry))) ⌝ }
+{
+    let mut i = from;
+    while i < names.len() {
+        if names[i] == b'|' {
+            return i;
+        }
+        i += 1;
+    }
+    i
+}
+
+// Which of at most 64 names a word is, from 0 on; 64 for none. They stand between bars.
+pub fn find_name(b: &[u8], w: Word, names: &[u8]) -> u64 {
+    let mut from: usize = 0;
+    let mut k: u64 = 0;
+    while k < 64 {
+        if names.len() <= from {
+            return 64;
+        }
+        let to = find_bar(names, from);
+        if is_name(b, w, &names[from..to]) {
+            return k;
+        }
+        if names.len() <= to {
+            return 64;
+        }
+        from = to + 1;
+        k += 1;
+    }
+    64
 }
 
 // The bytes of a line before its comment.

@@ -18,7 +18,7 @@ pub enum Numbers {
 }
 
 // The value of a digit; 10 for another byte.
-fn digit(x: u8) -> u64 {
+pub fn digit(x: u8) -> u64 {
     if x < b'0' {
         return 10;
     }
@@ -26,6 +26,25 @@ fn digit(x: u8) -> u64 {
         return 10;
     }
     (x - b'0') as u64
+}
+
+fn is_digits(b: &[u8], from: usize, to: usize) -> bool {
+    let mut i = from;
+    while i < to {
+        if 9 < digit(line::byte_at(b, i)) {
+            return false;
+        }
+        i += 1;
+    }
+    true
+}
+
+// A word whose digits up to a place are too large: with another byte after them it is no number.
+fn large(b: &[u8], at: usize, to: usize) -> Number {
+    if is_digits(b, at, to) {
+        return Number::TooLarge;
+    }
+    Number::NoNumber
 }
 
 // Leading zeros are allowed.
@@ -39,12 +58,35 @@ fn read_number(b: &[u8], w: Word) -> Number {
             return Number::NoNumber;
         }
         if (u64::MAX - d) / 10 < value {
-            return Number::TooLarge;
+            return large(b, i, to);
         }
         value = 10 * value + d;
         i += 1;
     }
     Number::Value(value)
+}
+
+// The first word from a place on that is no number below 2^64.
+pub fn wrong_word(b: &[u8], len: usize, start: usize) -> Word {
+    let mut at = start;
+    while at < len {
+        let w = line::next_word(b, len, at);
+        if w.to == w.from {
+            return w;
+        }
+        match read_number(b, w) {
+            Number::Value(_) => {
+                at = w.to;
+            }
+            Number::TooLarge => {
+                return w;
+            }
+            Number::NoNumber => {
+                return w;
+            }
+        }
+    }
+    Word { from: at, to: at }
 }
 
 fn put_word(words: &mut [u64], i: usize, x: u64) {

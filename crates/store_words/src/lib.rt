@@ -140,6 +140,14 @@ pub fn dump(out: &mut [u8], at: usize, s: &[u64], from: usize, to: usize) -> usi
     place
 }
 
+// Whether n stands in the chain after k others: the free count is above k, and it is below P.
+pub fn is_free(s: &[u64], k: u64, n: u64) -> bool {
+    if word(s, 4) <= k {
+        return false;
+    }
+    n < word(s, 1)
+}
+
 // The free nodes in the order of the chain, as many as the free count says, and the number after them; up to the first that
 // is not below P.
 fn put_chain(out: &mut [u8], at: usize, s: &[u64]) -> usize {
@@ -147,10 +155,7 @@ fn put_chain(out: &mut [u8], at: usize, s: &[u64]) -> usize {
     let mut n = word(s, 3);
     let mut k: u64 = 0;
     while k < Layout::MAX_POOL {
-        if word(s, 4) <= k {
-            return end_chain(out, place, n);
-        }
-        if word(s, 1) <= n {
+        if !is_free(s, k, n) {
             return end_chain(out, place, n);
         }
         place = store_print::room(out, place);

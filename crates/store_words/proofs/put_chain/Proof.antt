@@ -23,8 +23,8 @@ word-requires c κs = search needs
 loop-holds : tie.Need-loop-holds Inv-loop μ-loop
 loop-holds c = search needs
 
-word-requires-2 : tie.Need-word-requires-2 Inv-loop μ-loop
-word-requires-2 c κs = search needs
+is-free-requires : tie.Need-is-free-requires Inv-loop μ-loop
+is-free-requires c κs = search needs
 
 end-chain-requires : tie.Need-end-chain-requires Inv-loop μ-loop
 end-chain-requires c κs = search needs
@@ -34,18 +34,6 @@ same-length c = search needs
 
 returns : tie.Need-returns Inv-loop μ-loop
 returns c = search needs
-
-word-requires-3 : tie.Need-word-requires-3 Inv-loop μ-loop
-word-requires-3 c κs = search needs
-
-end-chain-requires-2 : tie.Need-end-chain-requires-2 Inv-loop μ-loop
-end-chain-requires-2 c κs = search needs
-
-same-length-2 : tie.Need-same-length-2 Inv-loop μ-loop
-same-length-2 c = search needs
-
-returns-2 : tie.Need-returns-2 Inv-loop μ-loop
-returns-2 c = search needs
 
 room-requires : tie.Need-room-requires Inv-loop μ-loop
 room-requires c κs = search needs
@@ -65,14 +53,14 @@ loop-less c = search needs
 loop-again : tie.Need-loop-again Inv-loop μ-loop
 loop-again c = search needs
 
-end-chain-requires-3 : tie.Need-end-chain-requires-3 Inv-loop μ-loop
-end-chain-requires-3 c κs = search needs
+end-chain-requires-2 : tie.Need-end-chain-requires-2 Inv-loop μ-loop
+end-chain-requires-2 c κs = search needs
 
-same-length-3 : tie.Need-same-length-3 Inv-loop μ-loop
-same-length-3 c = search needs
+same-length-2 : tie.Need-same-length-2 Inv-loop μ-loop
+same-length-2 c = search needs
 
-returns-3 : tie.Need-returns-3 Inv-loop μ-loop
-returns-3 c = search needs
+returns-2 : tie.Need-returns-2 Inv-loop μ-loop
+returns-2 c = search needs
 
 pub put-chain-spec : {M : Type 1} → statement M
 put-chain-spec =
@@ -84,20 +72,16 @@ put-chain-spec =
     put-bytes-requires
     word-requires
     loop-holds
-    word-requires-2
+    is-free-requires
     end-chain-requires
     same-length
     returns
-    word-requires-3
-    end-chain-requires-2
-    same-length-2
-    returns-2
     room-requires
     put-number-requires
     part-requires
     add-k
     loop-less
     loop-again
-    end-chain-requires-3
-    same-length-3
-    returns-3)
+    end-chain-requires-2
+    same-length-2
+    returns-2)

@@ -4,7 +4,7 @@ use Rattle.store_picture.proofs.explain.find_fault.Statement.{statement
 use Rattle.store_picture.proofs.explain.find_fault.Tie as tie
 
 abbrev Inv-loop : tie.InvT-loop
-Inv-loop s n path₀ more₀ path more = 0 ≤ 0
+Inv-loop s n path₀ more₀ path more = 0 ≤ more
 
 abbrev μ-loop : tie.MeasureT-loop
 μ-loop s n path₀ more₀ path more = more
@@ -18,6 +18,9 @@ word-requires c κs = search needs
 loop-holds : tie.Need-loop-holds Inv-loop μ-loop
 loop-holds c = search needs
 
+nothing-requires : tie.Need-nothing-requires Inv-loop μ-loop
+nothing-requires c κs = search needs
+
 returns : tie.Need-returns Inv-loop μ-loop
 returns c = search needs
 
@@ -26,9 +29,6 @@ node-of-requires c κs = search needs
 
 fault-at-requires : tie.Need-fault-at-requires Inv-loop μ-loop
 fault-at-requires c κs = search needs
-
-is-nothing-requires : tie.Need-is-nothing-requires Inv-loop μ-loop
-is-nothing-requires c κs = search needs
 
 returns-2 : tie.Need-returns-2 Inv-loop μ-loop
 returns-2 c = search needs
@@ -45,6 +45,9 @@ loop-less c = search needs
 loop-again : tie.Need-loop-again Inv-loop μ-loop
 loop-again c = search needs
 
+nothing-requires-2 : tie.Need-nothing-requires-2 Inv-loop μ-loop
+nothing-requires-2 c κs = search needs
+
 returns-3 : tie.Need-returns-3 Inv-loop μ-loop
 returns-3 c = search needs
 
@@ -57,13 +60,14 @@ find-fault-spec =
     first-requires
     word-requires
     loop-holds
+    nothing-requires
     returns
     node-of-requires
     fault-at-requires
-    is-nothing-requires
     returns-2
     next-requires
     sub-more
     loop-less
     loop-again
+    nothing-requires-2
     returns-3)

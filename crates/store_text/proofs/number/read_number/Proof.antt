@@ -24,6 +24,9 @@ returns c = search needs
 sub-if2 : tie.Need-sub-if2 Inv-loop μ-loop
 sub-if2 c = search needs
 
+large-requires : tie.Need-large-requires Inv-loop μ-loop
+large-requires c κs = search needs
+
 returns-2 : tie.Need-returns-2 Inv-loop μ-loop
 returns-2 c = search needs
 
@@ -56,6 +59,7 @@ read-number-spec =
     digit-requires
     returns
     sub-if2
+    large-requires
     returns-2
     mul-value
     add-value
