@@ -1,83 +1,46 @@
 // The records of a script back into lines of text, as script_encode reads them. A bad record ends the run: its number goes
 // to standard error.
 
-ghost use Prim.Native.Nat.{_≤_};
-ghost use lib.ListN.{length};
 use libc::STDERR_FILENO;
 use libc::STDOUT_FILENO;
 use script_input::name;
 use script_records::Head;
 use script_records::Record;
 
-// A line with one, two, three numbers after the name of this kind: the place after it.
-fn put_call1(out: &mut [u8], kind: u64, a: u64) -> usize {
-    let named = name::put_name(out, 0, kind);
-    let place = script_text::put_number(out, named, a);
-    script_text::put_byte(out, place, b'\n')
-}
-
-fn put_call2(out: &mut [u8], kind: u64, a: u64, b: u64) -> usize {
-    let named = name::put_name(out, 0, kind);
-    let first = script_text::put_number(out, named, a);
-    let place = script_text::put_number(out, first, b);
-    script_text::put_byte(out, place, b'\n')
-}
-
-fn put_call3(out: &mut [u8], kind: u64, a: u64, b: u64, c: u64) -> usize {
-    let named = name::put_name(out, 0, kind);
-    let first = script_text::put_number(out, named, a);
-    let second = script_text::put_number(out, first, b);
-    let place = script_text::put_number(out, second, c);
-    script_text::put_byte(out, place, b'\n')
-}
-
-fn put_numbers(out: &mut [u8], at: usize, numbers: &[u64]) -> usize {
-    let mut place = at;
-    let mut i: usize = 0;
-    while i < numbers.len() {
-        place = script_text::put_number(out, place, numbers[i]);
-        i += 1;
+// The line of a good record, whatever its kind: a name, and all words of the body. The longest, of a prune with 511 words of
+// 20 digits, has 10,737 bytes.
+fn write_line(body: &[u8]) {
+    let len = body.len();
+    if len < 2 {
+        return;
     }
-    place
-}
-
-// The page ids stand in the body.
-fn put_prune(out: &mut [u8], start: u64, end: u64, body: &[u8]) -> usize
-    requires { ⌜ length (now body) ≤ 4096 ⌝ }
-{
-    let mut ids = [0u64; 512];
-    let k = script_records::copy_ids(body, &mut ids);
-    let named = name::put_name(out, 0, 4);
-    let first = script_text::put_number(out, named, start);
-    let second = script_text::put_number(out, first, end);
-    let place = put_numbers(out, second, &ids[0..k]);
-    script_text::put_byte(out, place, b'\n')
-}
-
-// The line of what a record asks for: its length, 0 for a bad record.
-fn put_call(out: &mut [u8], asked: Record, body: &[u8]) -> usize
-    requires { ⌜ length (now body) ≤ 4096 ⌝ }
-{
-    match asked {
-        Record::Create(capacity, nodes, start) => put_call3(out, 1, capacity, nodes, start),
-        Record::Append(count, page) => put_call2(out, 2, count, page),
-        Record::Find(row) => put_call1(out, 3, row),
-        Record::Prune(start, end) => put_prune(out, start, end, body),
-        Record::Walk(row) => put_call1(out, 5, row),
-        Record::Release(pivot) => put_call1(out, 6, pivot),
-        Record::Bad => 0,
+    let mut out = [0u8; 10737];
+    let mut place = name::put_name(&mut out, 0, script_records::read_u16(body, 0));
+    let mut at: usize = 2;
+    while 8 <= len - at {
+        place = script_text::put_number(&mut out, place, script_records::read_u64(body, at));
+        at += 8;
+    }
+    place = script_text::put_byte(&mut out, place, b'\n');
+    if place <= 10737 {
+        io::write_all(STDOUT_FILENO, &out[0..place]);
     }
 }
 
-// The line of the record that these bytes are.
-fn put_record(out: &mut [u8], bytes: &[u8]) -> usize {
+// Writes the line of the record that these bytes are. Whether it is a good one.
+fn take_record(bytes: &[u8]) -> bool {
     match script_records::read_head(bytes) {
-        Head::Bad => 0,
+        Head::Bad => false,
         Head::Whole(len) => {
             let end = 4 + len;
             let body = &bytes[4..end];
-            let asked = script_records::read_body(body);
-            put_call(out, asked, body)
+            match script_records::read_body(body) {
+                Record::Bad => false,
+                _ => {
+                    write_line(body);
+                    true
+                }
+            }
         }
     }
 }
@@ -92,41 +55,28 @@ fn fail(number: u64) {
 }
 
 // The next record. Whether to go on.
-fn next_record(bytes: &mut [u8], out: &mut [u8], number: u64) -> bool
-    requires { ⌜ 4100 ≤ length (now bytes) ⌝ }
-{
-    let n = script_input::read_record(bytes);
+fn next_record(number: u64) -> bool {
+    let mut bytes = [0u8; 4100];
+    let n = script_input::read_record(&mut bytes);
     if n == 0 {
         return false;
     }
-    let len = put_record(out, &bytes[0..n]);
-    if len == 0 {
+    let good = take_record(&bytes[0..n]);
+    if !good {
         fail(number);
-        return false;
     }
-    if len <= out.len() {
-        io::write_all(STDOUT_FILENO, &out[0..len]);
-    }
-    true
+    good
 }
 
 // A proved loop has to end, and nothing says that the input does: the records are counted up to a number that no run
 // reaches.
-fn run(bytes: &mut [u8], out: &mut [u8])
-    requires { ⌜ 4100 ≤ length (now bytes) ⌝ }
-{
+fn main() {
     let mut number: u64 = 1;
     while number < u64::MAX {
-        let goes = next_record(bytes, out, number);
+        let goes = next_record(number);
         if !goes {
             return;
         }
         number += 1;
     }
-}
-
-fn main() {
-    let mut bytes = [0u8; 4100];
-    let mut out = io::large_buffer();
-    run(&mut bytes, &mut out);
 }

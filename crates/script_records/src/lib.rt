@@ -32,7 +32,7 @@ fn read_u8(b: &[u8], at: usize) -> u64
     wide(b[at])
 }
 
-fn read_u16(b: &[u8], at: usize) -> u64
+pub fn read_u16(b: &[u8], at: usize) -> u64
     requires { ⌜ at + 2 ≤ length (now b) ⌝ }
     ensures { λ r. ⌜ Reads (now (b .entry)) at 2 r ⌝ }
 {
@@ -50,7 +50,7 @@ pub fn read_u32(b: &[u8], at: usize) -> u64
     low + 65536 * high
 }
 
-fn read_u64(b: &[u8], at: usize) -> u64
+pub fn read_u64(b: &[u8], at: usize) -> u64
     requires { ⌜ at + 8 ≤ length (now b) ⌝ }
     ensures { λ r. ⌜ Reads (now (b .entry)) at 8 r ⌝ }
 {

@@ -1,88 +1,59 @@
-// What is wrong with a node, in the order of the node test; then its child numbers and a branch's end.
+// What is wrong with a node, in the order of the node test; then its child numbers and a branch's end. Each function writes the
+// first fault that it finds, and answers whether it found one.
 
+use crate::words;
 use model::node::RowPageIndexNodeHeader;
-use node_test::Limit;
-use store_words;
+use store_print;
 
-// The texts of `explain`, by their places.
-pub const HEIGHT: u64 = 1;
+// The texts by their places.
+const HEIGHT: u64 = 0;
 
-pub const COUNT: u64 = 2;
+const COUNT: u64 = 1;
 
-pub const START: u64 = 3;
+const START: u64 = 2;
 
-pub const FIRST_ROW: u64 = 4;
+const FIRST_ROW: u64 = 3;
 
-pub const ROW: u64 = 5;
+const ROW: u64 = 4;
 
-pub const LOW_END: u64 = 6;
+const LOW_END: u64 = 5;
 
-pub const HIGH_END: u64 = 7;
+const HIGH_END: u64 = 6;
 
-pub const OTHER_END: u64 = 8;
+const OTHER_END: u64 = 7;
 
-pub const CHILD: u64 = 9;
+const CHILD: u64 = 8;
 
-pub const NOT_NONE: u64 = 10;
+const NOT_NONE: u64 = 9;
 
-pub const NOT_NONE_NOR: u64 = 11;
+const NOT_NONE_NOR: u64 = 10;
 
-pub const HIGH_START: u64 = 12;
+const HIGH_START: u64 = 11;
 
-pub const CAPACITY: u64 = 13;
-
-pub const NODES: u64 = 14;
-
-pub const LENGTH: u64 = 15;
-
-pub const ROOT: u64 = 16;
-
-pub const FIRST_FREE: u64 = 17;
-
-pub const FREE_COUNT: u64 = 18;
-
-pub const SHORT_CHAIN: u64 = 19;
-
-pub const LONG_CHAIN: u64 = 20;
-
-pub const NOT_FREE: u64 = 21;
-
-pub const SUM: u64 = 22;
-
-pub const NO_HEADER: u64 = 23;
-
-// The place of its text, a value, and the one that is wanted, or the one that it must be above or below.
-pub struct Fault {
-    pub text: u64,
-    pub is: u64,
-    pub wanted: u64,
+// A fault: what is, and what is wanted, or what it must be above or below.
+fn tell(text: u64, is: u64, wanted: u64) -> bool {
+    store_print::tell(
+        b"its height is %, wanted %|its count is %, wanted 1 to %|its start is &, wanted &|its first row is &, wanted &|row & is not above the row before it, entry %|its end is &, wanted above its last row &|its end is &, wanted at most &|its end is &, wanted the next row &|its child number % is not below %|its end is &, wanted NONE|its end is &, wanted NONE or the next row &|its start is &, wanted at most &",
+        text,
+        is,
+        wanted,
+    );
+    true
 }
 
-pub fn told(text: u64, is: u64, wanted: u64) -> Fault {
-    Fault { text, is, wanted }
-}
-
-pub fn nothing() -> Fault {
-    told(0, 0, 0)
-}
-
-// The first row that is not above the one before it; the count where all are.
-fn first_fall(s: &[u64], n: u64, count: u64) -> u64 {
-    let mut i: u64 = 1;
-    while i < count {
-        if store_words::row(s, n, i) <= store_words::row(s, n, i - 1) {
-            return i;
-        }
-        i += 1;
+// Whether entry i falls: its row is not above the one before it; or, of the child numbers, whether it is out of range.
+fn is_wrong(s: &[u64], n: u64, i: u64, of_child: bool) -> bool {
+    if of_child {
+        return words::word(s, 1) <= words::child(s, n, i);
     }
-    count
+    0 < i && words::row(s, n, i) <= words::row(s, n, i - 1)
 }
 
-// The first child number that is not below P; the count where all are.
-fn first_out(s: &[u64], n: u64, count: u64) -> u64 {
+// The first entry that is wrong; the count where none is.
+fn first_wrong(s: &[u64], n: u64, count: u64, of_child: bool) -> u64 {
     let mut i: u64 = 0;
     while i < count {
-        if store_words::word(s, 1) <= store_words::child(s, n, i) {
+        if is_wrong(s, n, i, of_child) {
             return i;
         }
         i += 1;
@@ -90,110 +61,89 @@ fn first_out(s: &[u64], n: u64, count: u64) -> u64 {
     count
 }
 
-// An end that is not the next row, where there is one.
-fn fault_of_next(end: u64, next: Limit, open: Fault, text: u64) -> Fault {
-    match next {
-        Limit::Open => open,
-        Limit::Below(row) => {
-            if end == row.0 {
-                return nothing();
-            }
-            told(text, end, row.0)
-        }
-    }
+// An end that is not the next row.
+fn tell_other(end: u64, next: u64, text: u64) -> bool {
+    end != next && tell(text, end, next)
 }
 
-fn fault_of_leaf_end(end: u64, next: Limit) -> Fault {
+// A leaf's end, before the next row where there is one.
+fn tell_leaf_end(end: u64, is_before: bool, next: u64) -> bool {
     if RowPageIndexNodeHeader::ROW_LIMIT < end {
-        return told(HIGH_END, end, RowPageIndexNodeHeader::ROW_LIMIT);
+        return tell(HIGH_END, end, RowPageIndexNodeHeader::ROW_LIMIT);
     }
-    fault_of_next(end, next, nothing(), OTHER_END)
+    is_before && tell_other(end, next, OTHER_END)
 }
 
 // A branch's end that only the full check refuses.
-fn fault_of_branch_end(end: u64, next: Limit) -> Fault {
+fn tell_branch_end(end: u64, is_before: bool, next: u64) -> bool {
     if end == RowPageIndexNodeHeader::NONE {
-        return nothing();
+        return false;
     }
-    fault_of_next(end, next, told(NOT_NONE, end, 0), NOT_NONE_NOR)
+    if is_before {
+        return tell_other(end, next, NOT_NONE_NOR);
+    }
+    tell(NOT_NONE, end, 0)
 }
 
 // Child numbers and end of a node whose rows rise up to this one.
-fn fault_of_end(s: &[u64], n: u64, count: u64, last: u64, next: Limit) -> Fault {
-    let end = store_words::part(s, n, 3);
+fn tell_end(s: &[u64], n: u64, count: u64, last: u64, is_before: bool, next: u64) -> bool {
+    let end = words::part(s, n, 3);
     if end <= last {
-        return told(LOW_END, end, last);
+        return tell(LOW_END, end, last);
     }
-    if store_words::part(s, n, 0) == 0 {
-        return fault_of_leaf_end(end, next);
+    if words::part(s, n, 0) == 0 {
+        return tell_leaf_end(end, is_before, next);
     }
-    let out = first_out(s, n, count);
+    let out = first_wrong(s, n, count, true);
     if out < count {
-        return told(
-            CHILD,
-            store_words::child(s, n, out),
-            store_words::word(s, 1),
-        );
+        return tell(CHILD, words::child(s, n, out), words::word(s, 1));
     }
-    fault_of_branch_end(end, next)
+    tell_branch_end(end, is_before, next)
 }
 
 // Rows, child numbers and end of a node whose count is in range.
-fn fault_of_entries(s: &[u64], n: u64, next: Limit) -> Fault {
-    let count = store_words::entries(s, n);
-    let fall = first_fall(s, n, count);
-    if fall < count {
-        return told(ROW, store_words::row(s, n, fall), fall);
-    }
+fn tell_entries(s: &[u64], n: u64, is_before: bool, next: u64) -> bool {
+    let count = words::entries(s, n);
     if count == 0 {
-        return nothing();
+        return false;
     }
-    fault_of_end(s, n, count, store_words::row(s, n, count - 1), next)
+    let fall = first_wrong(s, n, count, false);
+    if fall < count {
+        return tell(ROW, words::row(s, n, fall), fall);
+    }
+    tell_end(s, n, count, words::row(s, n, count - 1), is_before, next)
 }
 
 // A node that should have this height, under an entry of this row.
-pub fn fault_of(s: &[u64], n: u64, height: u64, row: u64, next: Limit) -> Fault {
-    let is = store_words::part(s, n, 0);
+pub fn tell_node(s: &[u64], n: u64, height: u64, row: u64, is_before: bool, next: u64) -> bool {
+    let is = words::part(s, n, 0);
     if is != height {
-        return told(HEIGHT, is, height);
+        return tell(HEIGHT, is, height);
     }
-    let capacity = store_words::word(s, 0);
-    let count = store_words::part(s, n, 1);
-    if count == 0 {
-        return told(COUNT, count, capacity);
+    let count = words::part(s, n, 1);
+    if count != words::entries(s, n) || count == 0 {
+        return tell(COUNT, count, words::word(s, 0));
     }
-    if capacity < count {
-        return told(COUNT, count, capacity);
-    }
-    let start = store_words::part(s, n, 2);
+    let start = words::part(s, n, 2);
     if start != row {
-        return told(START, start, row);
+        return tell(START, start, row);
     }
-    let first = store_words::row(s, n, 0);
+    let first = words::row(s, n, 0);
     if first != row {
-        return told(FIRST_ROW, first, row);
+        return tell(FIRST_ROW, first, row);
     }
-    fault_of_entries(s, n, next)
+    tell_entries(s, n, is_before, next)
 }
 
-// An empty root has its own rule.
-fn fault_of_empty(start: u64, end: u64) -> Fault {
+// A root that is an empty leaf has its own rule.
+pub fn tell_empty_root(s: &[u64], n: u64) -> bool {
+    if n != words::word(s, 2) || words::part(s, n, 0) != 0 || words::part(s, n, 1) != 0 {
+        return false;
+    }
+    let start = words::part(s, n, 2);
     if RowPageIndexNodeHeader::ROW_LIMIT < start {
-        return told(HIGH_START, start, RowPageIndexNodeHeader::ROW_LIMIT);
+        return tell(HIGH_START, start, RowPageIndexNodeHeader::ROW_LIMIT);
     }
-    if end == RowPageIndexNodeHeader::NONE {
-        return nothing();
-    }
-    told(NOT_NONE, end, 0)
-}
-
-pub fn fault_of_root(s: &[u64], n: u64, height: u64) -> Fault {
-    let start = store_words::part(s, n, 2);
-    if store_words::part(s, n, 0) != 0 {
-        return fault_of(s, n, height, start, Limit::Open);
-    }
-    if store_words::part(s, n, 1) != 0 {
-        return fault_of(s, n, height, start, Limit::Open);
-    }
-    fault_of_empty(start, store_words::part(s, n, 3))
+    let end = words::part(s, n, 3);
+    end != RowPageIndexNodeHeader::NONE && tell(NOT_NONE, end, 0)
 }

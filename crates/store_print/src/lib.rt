@@ -1,69 +1,97 @@
-// What the store program writes: lines in lent bytes, which go to standard output when they are nearly full.
+// What the store program writes. Each part of a line is written by itself, so nothing is held back when the program waits for
+// input.
+
+pub mod wrong;
 
 use answer_numbers;
+use answer_numbers::Numbers;
 use libc::STDOUT_FILENO;
 use model::answer::Checked;
 use model::answer::Refusal;
-use model::node::PageEntry;
+use model::node::RowPageIndexNodeHeader;
 
-// Writes the first bytes out. The place to go on at.
-pub fn flush(out: &[u8], at: usize) -> usize {
-    if out.len() < at {
-        io::write_all(STDOUT_FILENO, out);
-        return 0;
+// A byte of a text: a `%` stands for the number, a `&` for the number as a row.
+fn put_part(out: &mut [u8], at: usize, x: u8, n: u64) -> usize {
+    if x == b'%' {
+        return script_text::put_decimal(out, at, n);
     }
-    io::write_all(STDOUT_FILENO, &out[0..at]);
-    0
+    if x != b'&' {
+        return script_text::put_byte(out, at, x);
+    }
+    if n == RowPageIndexNodeHeader::NONE {
+        return script_text::put_bytes(out, at, b"NONE");
+    }
+    script_text::put_decimal(out, at, n)
 }
 
-// The place to go on at, with 1,024 bytes of the program's 65,536 left for one part of a line.
-pub fn room(out: &[u8], at: usize) -> usize {
-    if at < 64512 {
-        return at;
+// Text k of those between bars. The first mark in it is a, the others are b.
+fn put_message(out: &mut [u8], texts: &[u8], k: u64, a: u64, b: u64) -> usize {
+    let mut place: usize = 0;
+    let mut left = k;
+    let mut n = a;
+    let mut i: usize = 0;
+    while i < texts.len() {
+        let x = texts[i];
+        i += 1;
+        if x == b'|' {
+            if left == 0 {
+                return place;
+            }
+            left -= 1;
+            continue;
+        }
+        if 0 < left {
+            continue;
+        }
+        place = put_part(out, place, x, n);
+        if x == b'%' || x == b'&' {
+            n = b;
+        }
     }
-    flush(out, at)
+    place
 }
 
-pub fn put_refusal(out: &mut [u8], at: usize, r: Refusal) -> usize {
-    answer_line::put_answer(out, at, b"no", b"no", answer_numbers::refusal_numbers(r))
+// The first bytes that were put.
+fn write(fd: i32, out: &[u8], len: usize) {
+    if len <= out.len() {
+        io::write_all(fd, &out[0..len]);
+    }
+}
+
+// Writes text k of those between bars.
+pub fn say(fd: i32, texts: &[u8], k: u64, a: u64, b: u64) {
+    let mut out = [0u8; 1024];
+    let len = put_message(&mut out, texts, k, a, b);
+    write(fd, &out, len);
+}
+
+// Writes text k to standard output.
+pub fn tell(texts: &[u8], k: u64, a: u64, b: u64) {
+    say(STDOUT_FILENO, texts, k, a, b);
+}
+
+// The line of an answer, as in a script.
+pub fn tell_answer(done: &[u8], none: &[u8], answer: Numbers) {
+    let mut out = [0u8; 256];
+    let len = answer_line::put_answer(&mut out, 0, done, none, answer);
+    write(STDOUT_FILENO, &out, len);
+}
+
+pub fn tell_refusal(r: Refusal) {
+    tell_answer(b"no", b"no", answer_numbers::refusal_numbers(r));
 }
 
 // The full check's line.
-pub fn put_checked(out: &mut [u8], at: usize, a: Checked) -> usize {
-    answer_line::put_answer(
-        out,
-        at,
-        b"check",
-        b"check",
-        answer_reads::checked_numbers(a),
-    )
+pub fn tell_checked(a: Checked) {
+    tell_answer(b"check", b"check", answer_reads::checked_numbers(a));
 }
 
 // The rest of a line: these numbers.
-pub fn end_with(out: &mut [u8], at: usize, numbers: &[u64]) -> usize {
-    let mut place = at;
+pub fn tell_numbers(numbers: &[u64]) {
     let mut i: usize = 0;
     while i < numbers.len() {
-        place = room(out, place);
-        place = script_text::put_number(out, place, numbers[i]);
+        tell(b" %", 0, numbers[i], 0);
         i += 1;
     }
-    script_text::put_byte(out, place, b'\n')
-}
-
-// A line with the rows and pages of the first records.
-pub fn put_entries(out: &mut [u8], at: usize, list: [PageEntry; 4094], count: u64) -> usize {
-    let mut place = script_text::put_bytes(out, at, b"entries");
-    let mut i: usize = 0;
-    while i < 4094 {
-        if count <= i as u64 {
-            return script_text::put_byte(out, place, b'\n');
-        }
-        let e = list[i];
-        place = room(out, place);
-        place = script_text::put_number(out, place, e.row_id.0);
-        place = script_text::put_number(out, place, e.page_id.0);
-        i += 1;
-    }
-    script_text::put_byte(out, place, b'\n')
+    tell(b"\n", 0, 0, 0);
 }

@@ -1,7 +1,6 @@
 // Lines of standard input, and their words.
 
 ghost use Prim.Native.Nat.{_≤_};
-ghost use lib.ListN.{length};
 use libc::STDIN_FILENO;
 
 // What is left of the block that was read last.
@@ -105,60 +104,37 @@ pub fn next_word(b: &[u8], len: usize, at: usize) -> Word
     Word { from, to }
 }
 
-// Whether a word is this name.
-pub fn is_name(b: &[u8], w: Word, name: &[u8]) -> bool {
-    let from = w.from;
-    if w.to < from {
-        return false;
+// The place after byte x of a word that goes on up to another place; no place where the word has another byte.
+fn after(b: &[u8], at: usize, to: usize, x: u8) -> usize {
+    if to <= at {
+        return usize::MAX;
     }
-    if w.to - from != name.len() {
-        return false;
+    if byte_at(b, at) != x {
+        return usize::MAX;
     }
-    let mut i: usize = 0;
-    while i < name.len() {
-        if usize::MAX - i < from {
-            return false;
-        }
-        if byte_at(b, from + i) != name[i] {
-            return false;
-        }
-        i += 1;
-    }
-    true
+    at + 1
 }
 
-// The first bar from a place on, or the end.
-fn find_bar(names: &[u8], from: usize) -> usize
-    requires { ⌜ from ≤ length (now names) ⌝ }
-    ensures { λ r. ⌜ (from ≤ r) × (r ≤ length (now (names .entry))) ⌝ }
-{
-    let mut i = from;
-    while i < names.len() {
-        if names[i] == b'|' {
-            return i;
-        }
-        i += 1;
-    }
-    i
-}
-
-// Which of at most 64 names a word is, from 0 on; 64 for none. They stand between bars.
+// Which of some names a word is, from 0 on; 64 for none. They stand between bars.
 pub fn find_name(b: &[u8], w: Word, names: &[u8]) -> u64 {
-    let mut from: usize = 0;
+    let mut at = w.from;
     let mut k: u64 = 0;
-    while k < 64 {
-        if names.len() <= from {
-            return 64;
+    let mut i: usize = 0;
+    while i < names.len() {
+        let x = names[i];
+        i += 1;
+        if x != b'|' {
+            at = after(b, at, w.to, x);
+            continue;
         }
-        let to = find_bar(names, from);
-        if is_name(b, w, &names[from..to]) {
+        if at == w.to {
             return k;
         }
-        if names.len() <= to {
-            return 64;
-        }
-        from = to + 1;
+        at = w.from;
         k += 1;
+    }
+    if at == w.to {
+        return k;
     }
     64
 }

@@ -4,17 +4,17 @@ use crate::line;
 use crate::line::Word;
 
 // A word as a number of 64 bits.
-pub enum Number {
+enum Number {
     Value(u64),
     TooLarge,
     NoNumber,
 }
 
-// The numbers of a line, or what is wrong with the first word that is none.
+// How many numbers a line has; or its first word that is none below 2^64.
 pub enum Numbers {
     All(usize),
-    TooLarge,
-    NoNumber,
+    TooLarge(Word),
+    NoNumber(Word),
 }
 
 // The value of a digit; 10 for another byte.
@@ -28,28 +28,10 @@ pub fn digit(x: u8) -> u64 {
     (x - b'0') as u64
 }
 
-fn is_digits(b: &[u8], from: usize, to: usize) -> bool {
-    let mut i = from;
-    while i < to {
-        if 9 < digit(line::byte_at(b, i)) {
-            return false;
-        }
-        i += 1;
-    }
-    true
-}
-
-// A word whose digits up to a place are too large: with another byte after them it is no number.
-fn large(b: &[u8], at: usize, to: usize) -> Number {
-    if is_digits(b, at, to) {
-        return Number::TooLarge;
-    }
-    Number::NoNumber
-}
-
-// Leading zeros are allowed.
+// Leading zeros are allowed. A word with another byte than digits is no number, however large.
 fn read_number(b: &[u8], w: Word) -> Number {
     let mut value: u64 = 0;
+    let mut is_large = false;
     let mut i = w.from;
     let to = w.to;
     while i < to {
@@ -57,36 +39,17 @@ fn read_number(b: &[u8], w: Word) -> Number {
         if 9 < d {
             return Number::NoNumber;
         }
+        i += 1;
         if (u64::MAX - d) / 10 < value {
-            return large(b, i, to);
+            is_large = true;
+            continue;
         }
         value = 10 * value + d;
-        i += 1;
+    }
+    if is_large {
+        return Number::TooLarge;
     }
     Number::Value(value)
-}
-
-// The first word from a place on that is no number below 2^64.
-pub fn wrong_word(b: &[u8], len: usize, start: usize) -> Word {
-    let mut at = start;
-    while at < len {
-        let w = line::next_word(b, len, at);
-        if w.to == w.from {
-            return w;
-        }
-        match read_number(b, w) {
-            Number::Value(_) => {
-                at = w.to;
-            }
-            Number::TooLarge => {
-                return w;
-            }
-            Number::NoNumber => {
-                return w;
-            }
-        }
-    }
-    Word { from: at, to: at }
 }
 
 fn put_word(words: &mut [u64], i: usize, x: u64) {
@@ -109,10 +72,10 @@ pub fn read_numbers(b: &[u8], len: usize, start: usize, words: &mut [u64]) -> Nu
                 put_word(words, count, x);
             }
             Number::TooLarge => {
-                return Numbers::TooLarge;
+                return Numbers::TooLarge(w);
             }
             Number::NoNumber => {
-                return Numbers::NoNumber;
+                return Numbers::NoNumber(w);
             }
         }
         at = w.to;

@@ -1,0 +1,45 @@
+use borrow.Author.Needs.{needs}
+use Prim.Native.Nat.{_-_, _^_, _≤_}
+use Rattle.script_decode.proofs.main.Statement.{statement}
+use Rattle.script_decode.proofs.main.Tie as tie
+
+abbrev Inv-loop : tie.InvT-loop
+Inv-loop number₀ number = 0 ≤ number
+
+abbrev μ-loop : tie.MeasureT-loop
+μ-loop number₀ number = 2 ^ 64 - number
+
+loop-holds : tie.Need-loop-holds Inv-loop μ-loop
+loop-holds c = search needs
+
+next-record-requires : tie.Need-next-record-requires Inv-loop μ-loop
+next-record-requires c κs = search needs
+
+returns : tie.Need-returns Inv-loop μ-loop
+returns c = search needs
+
+add-number : tie.Need-add-number Inv-loop μ-loop
+add-number c = search needs
+
+loop-less : tie.Need-loop-less Inv-loop μ-loop
+loop-less c = search needs
+
+loop-again : tie.Need-loop-again Inv-loop μ-loop
+loop-again c = search needs
+
+returns-2 : tie.Need-returns-2 Inv-loop μ-loop
+returns-2 c = search needs
+
+pub main-spec : {M : Type 1} → statement M
+main-spec =
+    tie.close
+    (tie.spec
+    Inv-loop
+    μ-loop
+    loop-holds
+    next-record-requires
+    returns
+    add-number
+    loop-less
+    loop-again
+    returns-2)
