@@ -8,6 +8,8 @@ use Rattle.model.specs.Words.{Shape, height, start}
 use Rattle.model.specs.Tree.{Open, level, nodeAt}
 use Rattle.model.specs.Reading.{passes, visits}
 use Rattle.model.specs.Prune.{Scan, on, ranOut, scan}
+use Rattle.model.specs.declared.id.NodeNo.{NodeNo}
+use Rattle.model.specs.declared.id.RowID.{RowID}
 use Rattle.model.specs.declared.path.Path.{Path}
 use Rattle.node_read.specs.Layout.{shapeOf}
 use Rattle.node_read.specs.declared.layout.Layout.{Layout}
@@ -28,8 +30,9 @@ unfoldable pub Ending : Shape → ℕ → List ℕ → ℕ → ℕ → Prefix �
 Ending C P w e root x = endingOf C P w e root (x .answer) (x .path) (x .used) (x .left)
 
 -- what the leaves below node n, and those of the tree from root n, come to against the ids
-abbrev pub belowScan : Layout → List ℕ → ℕ → ℕ → List ℕ → ℕ → ℕ → Scan
-belowScan l w e n ids p c = ranOut e (scan (shapeOf l) w e (below false (shapeOf l) (l .pool) w n) (on (drop p ids) p c))
+abbrev pub belowScan : Layout → List ℕ → RowID → NodeNo → List ℕ → ℕ → RowID → Scan
+belowScan l w e n ids p c =
+    ranOut (e .0) (scan (shapeOf l) w (e .0) (below false (shapeOf l) (l .pool) w (n .0)) (on (drop p ids) p (c .0)))
 
 abbrev pub treeScan : Layout → List ℕ → ℕ → ℕ → List ℕ → Scan
 treeScan l w e n ids =

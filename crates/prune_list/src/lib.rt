@@ -64,7 +64,7 @@ fn scan_below(
     requires { ⌜ Valid (shapeOf l) (l .pool) (now s) (height (shapeOf l) (now s) (node .0)) (entered (node .0) ∷ []) ⌝ }
     requires { ⌜ (first ≡ outOf (shapeOf l) (l .pool) (now s) (height (shapeOf l) (now s) (node .0)) (node .0)) × (left ≡ 0) ⌝ }
     requires { ⌜ Begun l (now s) (node .0) (now ids) place used (reached .0) ⌝ }
-    ensures answer { λ r. ⌜ namedOf (end .0) (r .answer) ≡ belowScan l (now (s .entry)) (end .0) (node .0) (now (ids .entry)) place (reached .0) ⌝ }
+    ensures answer { λ r. ⌜ namedOf (end .0) (r .answer) ≡ belowScan l (now (s .entry)) end node (now (ids .entry)) place reached ⌝ }
     ensures edge { λ r. ⌜ Ending (shapeOf l) (l .pool) (now (s .entry)) (end .0) (node .0) r ⌝ }
 {
     let mut path = Path::rooted(node);

@@ -13,7 +13,7 @@ use Rattle.model.proofs.Tests.{by-test}
 use Rattle.model.proofs.Fill.{fill-append, fill-is}
 use Rattle.script_text.specs.Lines.{Puts}
 use Rattle.script_text.proofs.Putting.{same}
-use Rattle.script_records.specs.Records.{Call, bodyLength, whole, first}
+use Rattle.script_records.specs.Records.{Request, bodyLength, whole, first}
 use Rattle.script_records.proofs.Heads.{within}
 use Rattle.script_calls.specs.Calls.{Memory, perform}
 use Rattle.script_calls.specs.Steps.{memory, Does}

@@ -17,7 +17,7 @@ use Rattle.model.specs.LeafWalk.{seek}
 use Rattle.model.specs.Release.{destroy}
 use Rattle.model.proofs.Tests.{and-r, by-test, holds}
 use Rattle.script_text.specs.Lines.{line, Puts}
-use Rattle.script_records.specs.Records.{Call, Create, Append, Find, Prune, Walk, Release, Bad}
+use Rattle.script_records.specs.Records.{Request, Create, Append, Find, Prune, Walk, Release, Bad}
 use Rattle.answer_line.specs.Names.{createName, appendName, pruneName, releaseName, badRecordName}
 use Rattle.answer_line.specs.Answers.{callLine, findLine}
 use Rattle.script_calls.specs.Calls.{lentPages, walkLines, createLength, ifAccepted, perform}
@@ -85,7 +85,7 @@ unfolding ifAccepted
 accepted-fits (result vs) n m k h l = h
 accepted-fits (refused d e) n m k h l = l
 
-pub used-fits : (w : List ℕ) (u : ℕ) (a : Call) → u ≤ length w → perform (memory w u) a .memory .used ≤ length w
+pub used-fits : (w : List ℕ) (u : ℕ) (a : Request) → u ≤ length w → perform (memory w u) a .memory .used ≤ length w
 unfolding perform
 used-fits w u (Create C P s) h = let n = createLength (length w) C P in accepted-fits (create lent (take n w) C P s .answer) n u (length w) (within (length w) C P) h
 used-fits w u (Append k x) h = h

@@ -15,7 +15,7 @@ use Rattle.model.specs.Release.{Released, destroy}
 use Rattle.model.specs.declared.node.PageEntry.{PageEntry}
 use Rattle.model.specs.declared.cursor.RowPageIndexMemCursor.{RowPageIndexMemCursor}
 use Rattle.script_text.specs.Lines.{line}
-use Rattle.script_records.specs.Records.{Call, Create, Append, Find, Prune, Walk, Release, Bad}
+use Rattle.script_records.specs.Records.{Request, Create, Append, Find, Prune, Walk, Release, Bad}
 use Rattle.answer_line.specs.Answers.{callLine, findLine, leafLines}
 use Rattle.answer_line.specs.Names.{createName, appendName, pruneName, releaseName, badRecordName}
 
@@ -76,7 +76,7 @@ leaving m lines v =
 abbrev pub reading : Memory → List ℕ → Performed
 reading m lines = record { lines = lines; memory = m; goes = true }
 
-unfoldable pub perform : Memory → Call → Performed
+unfoldable pub perform : Memory → Request → Performed
 perform m (Create C P s) =
     let n = createLength (length (m .words)) C P in
     let o = create lent (take n (m .words)) C P s in

@@ -4,7 +4,7 @@ use mathlib.Core.List.{List}
 use mathlib.Core.Path.{_≡_}
 use lib.ListN.{length, take, drop}
 use Rattle.model.specs.Words.{pick}
-use Rattle.script_records.specs.Records.{little, wordsIn, Call, bodyLength, whole}
+use Rattle.script_records.specs.Records.{little, wordsIn, Request, bodyLength, whole}
 use Rattle.script_records.specs.Records as C
 use Rattle.script_records.specs.declared.Head.{Head}
 use Rattle.script_records.specs.declared.Head.the-variants as H
@@ -21,7 +21,7 @@ abbrev pub bodyWords : List ℕ → List ℕ
 bodyWords body = wordsIn ((length body - 2) / 8) (drop 2 body)
 
 -- what a record asks for, with the page ids that stand in its body
-abbrev pub meant : List ℕ → Record → Call
+abbrev pub meant : List ℕ → Record → Request
 meant body (Create capacity nodes start) = C.Create capacity nodes start
 meant body (Append k x) = C.Append k x
 meant body (Find q) = C.Find q

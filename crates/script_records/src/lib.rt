@@ -4,7 +4,7 @@ ghost use mathlib.Core.Path.{_≡_};
 ghost use mathlib.Core.Logic.{_≢_};
 ghost use Prim.Native.Nat.{_+_, _*_, _-_, _/_, _≤_, _<_};
 ghost use lib.ListN.{drop, length, take};
-ghost use Rattle.script_records.specs.Records.{asked, callOf, little, wordsIn};
+ghost use Rattle.script_records.specs.Records.{asked, requestOf, little, wordsIn};
 ghost use Rattle.script_records.specs.Read.{Copied, Reads, headOf, meant};
 
 // What a record asks for. The page ids of a prune stay in its body.
@@ -69,7 +69,7 @@ fn read_word(body: &[u8], i: usize) -> u64
 
 fn create_of(body: &[u8], words: usize) -> Record
     requires { ⌜ length (now body) ≡ 2 + 8 * words ⌝ }
-    ensures { λ r. ⌜ meant (now (body .entry)) r ≡ callOf 1 (wordsIn words (drop 2 (now (body .entry)))) ⌝ }
+    ensures { λ r. ⌜ meant (now (body .entry)) r ≡ requestOf 1 (wordsIn words (drop 2 (now (body .entry)))) ⌝ }
 {
     if words != 3 {
         return Record::Bad;
@@ -82,7 +82,7 @@ fn create_of(body: &[u8], words: usize) -> Record
 
 fn append_of(body: &[u8], words: usize) -> Record
     requires { ⌜ length (now body) ≡ 2 + 8 * words ⌝ }
-    ensures { λ r. ⌜ meant (now (body .entry)) r ≡ callOf 2 (wordsIn words (drop 2 (now (body .entry)))) ⌝ }
+    ensures { λ r. ⌜ meant (now (body .entry)) r ≡ requestOf 2 (wordsIn words (drop 2 (now (body .entry)))) ⌝ }
 {
     if words != 2 {
         return Record::Bad;
@@ -94,7 +94,7 @@ fn append_of(body: &[u8], words: usize) -> Record
 
 fn prune_of(body: &[u8], words: usize) -> Record
     requires { ⌜ length (now body) ≡ 2 + 8 * words ⌝ }
-    ensures { λ r. ⌜ meant (now (body .entry)) r ≡ callOf 4 (wordsIn words (drop 2 (now (body .entry)))) ⌝ }
+    ensures { λ r. ⌜ meant (now (body .entry)) r ≡ requestOf 4 (wordsIn words (drop 2 (now (body .entry)))) ⌝ }
 {
     if words < 2 {
         return Record::Bad;
@@ -108,7 +108,7 @@ fn prune_of(body: &[u8], words: usize) -> Record
 fn of_one_word(body: &[u8], kind: u64, words: usize) -> Record
     requires { ⌜ length (now body) ≡ 2 + 8 * words ⌝ }
     requires { ⌜ (kind ≢ 1) × (kind ≢ 2) × (kind ≢ 4) ⌝ }
-    ensures { λ r. ⌜ meant (now (body .entry)) r ≡ callOf kind (wordsIn words (drop 2 (now (body .entry)))) ⌝ }
+    ensures { λ r. ⌜ meant (now (body .entry)) r ≡ requestOf kind (wordsIn words (drop 2 (now (body .entry)))) ⌝ }
 {
     if words != 1 {
         return Record::Bad;
@@ -128,7 +128,7 @@ fn of_one_word(body: &[u8], kind: u64, words: usize) -> Record
 
 fn of_kind(body: &[u8], kind: u64, words: usize) -> Record
     requires { ⌜ length (now body) ≡ 2 + 8 * words ⌝ }
-    ensures { λ r. ⌜ meant (now (body .entry)) r ≡ callOf kind (wordsIn words (drop 2 (now (body .entry)))) ⌝ }
+    ensures { λ r. ⌜ meant (now (body .entry)) r ≡ requestOf kind (wordsIn words (drop 2 (now (body .entry)))) ⌝ }
 {
     if kind == 1 {
         return create_of(body, words);

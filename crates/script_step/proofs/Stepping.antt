@@ -12,7 +12,7 @@ use Rattle.model.specs.Create.{create}
 use Rattle.model.proofs.Tests.{by-test}
 use Rattle.script_text.specs.Lines.{Puts, line}
 use Rattle.script_text.proofs.Putting.{joins}
-use Rattle.script_records.specs.Records.{Call, Create, Append, Find, Prune, Walk, Release, Bad, bodyLength, whole, first, asked}
+use Rattle.script_records.specs.Records.{Request, Create, Append, Find, Prune, Walk, Release, Bad, bodyLength, whole, first, asked}
 use Rattle.script_records.specs.Read.{headOf}
 use Rattle.script_records.specs.declared.Head.the-variants as H
 use Rattle.script_records.proofs.Heads.{within, wholly, badly}

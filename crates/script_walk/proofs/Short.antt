@@ -24,7 +24,7 @@ use Rattle.model.proofs.Tests.{by-test}
 use Rattle.model.proofs.Words.{nodes-few}
 use Rattle.model.proofs.Header.{header-of}
 use Rattle.script_text.specs.Lines.{digitsOf, decimal, numbers, line, digit}
-use Rattle.script_records.specs.Records.{Call, Create, Append, Find, Prune, Walk, Release, Bad}
+use Rattle.script_records.specs.Records.{Request, Create, Append, Find, Prune, Walk, Release, Bad}
 use Rattle.answer_line.specs.Names.{createName, appendName, pageName, noneName, pruneName, leafName, endName, releaseName, noName, badRecordName}
 use Rattle.answer_line.specs.Answers.{answerLine, leafLine}
 use Rattle.script_calls.specs.Calls.{lentRecords, lentPages, walkLines, Memory, createLength, perform}
@@ -236,7 +236,7 @@ module _ (m : Memory) (small : length (m .words) ≤ 4096) where
   part-small : length (take (m .used) (m .words)) ≤ 4096
   part-small = omega (arith, length-take (m .used) (m .words))
 
-  pub short : (c : Call) → length (perform m c .lines) ≤ 65536
+  pub short : (c : Request) → length (perform m c .lines) ≤ 65536
   unfolding perform
   short (Create C P s) = answer-fits createName createName _ (omega arith) (omega arith) (create-few (take (createLength (length (m .words)) C P) (m .words)) C P s)
   short (Append k x) = answer-fits appendName appendName _ (omega arith) (omega arith) (append-few (take (m .used) (m .words)) k x)

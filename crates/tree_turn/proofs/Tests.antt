@@ -56,9 +56,7 @@ pub branch : (C : Shape) (w : List ℕ) (n i : ℕ) → hasChild C w n i ≡ tru
 unfolding hasChild
 branch C w n i e =
     by-test (ltb 0 (height C w n))
-    (λ u. by-test (ltb i (count C w n))
-    (λ v. (ltb-true 0 (height C w n) u, ltb-true i (count C w n) v))
-    (λ v. absurd (false≢true (rw (u, v) at e))))
+    (λ u. let f = rw u at e in (ltb-true 0 (height C w n) u, omega (arith, ltb-true)))
     (λ u. absurd (false≢true (rw u at e)))
 
 -- a node that has no more children is a leaf, or all its entries are done
@@ -66,7 +64,7 @@ pub no-more : (C : Shape) (w : List ℕ) (n i : ℕ) → hasChild C w n i ≡ fa
 unfolding hasChild
 no-more C w n i e =
     by-test (ltb 0 (height C w n))
-    (λ u. by-test (ltb i (count C w n)) (λ v. absurd (false≢true (sym e ∙ rw (u, v)))) (λ v. inr (ltb-false i (count C w n) v)))
+    (λ u. let f = rw u at e in inr (omega (arith, ltb-false)))
     (λ u. inl (omega (arith, ltb-false 0 (height C w n) u)))
 
 -- the turn at a position, by the tests of the code
