@@ -61,13 +61,13 @@ fn digit_of(digits: &[u8], k: u64) -> u64 {
     number::digit(line::byte_at(digits, k as usize))
 }
 
-// How many numbers a kind takes; and of how many a message speaks.
+// The fewest and the most numbers that a kind takes.
 pub struct Range {
     pub least: u64,
     pub most: u64,
 }
 
-// The fewest and the most numbers of a kind, in the order of the names. 9: as many as a line has room for.
+// In the order of the names. 9: as many as a line has room for.
 pub fn takes(k: u64) -> Range {
     Range {
         least: digit_of(b"321210010100023120000", k),
