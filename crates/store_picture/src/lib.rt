@@ -137,12 +137,9 @@ fn visit_below(s: &[u64], how: u64, sought: u64, root: Place, height: u64)
             depth = at;
             continue;
         }
-        places[at] = Place {
-            node: top.node,
-            index: top.index + 1,
-            is_before: top.is_before,
-            next: top.next,
-        };
+        let mut turned = top;
+        turned.index += 1;
+        places[at] = turned;
         let child = words::child(s, top.node, top.index);
         if pool <= child {
             continue;

@@ -47,8 +47,8 @@ loop-less-2 c = search needs
 loop-again-2 : tie.Need-loop-again-2 Inv-loop μ-loop
 loop-again-2 c = search needs
 
-add-visit : tie.Need-add-visit Inv-loop μ-loop
-add-visit c = search needs
+add-turned : tie.Need-add-turned Inv-loop μ-loop
+add-turned c = search needs
 
 mul-places : tie.Need-mul-places Inv-loop μ-loop
 mul-places c = search needs
@@ -122,7 +122,7 @@ visit-below-spec =
     entries-requires
     loop-less-2
     loop-again-2
-    add-visit
+    add-turned
     mul-places
     array-set-from-places
     child-requires
