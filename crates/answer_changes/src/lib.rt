@@ -1,5 +1,7 @@
 // Answers of the calls that change a store, as numbers.
 
+#![tactic(auto)]
+
 ghost use Rattle.model.specs.Refusals.{created, destroyed, inserted, pruned};
 ghost use Rattle.answer_numbers.specs.Numbers.{Encodes};
 

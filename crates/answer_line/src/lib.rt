@@ -1,5 +1,7 @@
 // The line of an answer, put into lent bytes.
 
+#![tactic(auto)]
+
 ghost use Rattle.std.specs.Prelude.{take};
 ghost use Rattle.answer_numbers.specs.Numbers.{answer_of, five_of};
 ghost use Rattle.script_text.specs.Lines.{Puts, line};

@@ -1,5 +1,7 @@
 // Answers as numbers: of a refusal, of values.
 
+#![tactic(auto)]
+
 ghost use Rattle.std.specs.Prelude.{◌≡◌, [], ◌∷◌};
 ghost use Rattle.model.specs.Refusals.{refusal, refused};
 ghost use Rattle.answer_numbers.specs.Numbers.{Encodes, words_of};
@@ -7,7 +9,7 @@ ghost use Rattle.answer_numbers.specs.Numbers.{Encodes, words_of};
 use model::answer::Refusal;
 
 // A refusal's number and its detail.
-#[derive(Drop)]
+#[derive(Clone, Copy)]
 pub struct Numbered(pub u64, pub u64);
 
 pub fn number_of(r: Refusal) -> Numbered
@@ -31,7 +33,7 @@ pub fn number_of(r: Refusal) -> Numbered
 }
 
 // Seven words of an answer: number 0 and so many values, or a refusal's number and its detail as the only value.
-#[derive(Drop)]
+#[derive(Clone, Copy)]
 pub struct Numbers {
     pub number: u64,
     pub count: u64,

@@ -1,5 +1,7 @@
 // Answers of the calls that read a store, as numbers.
 
+#![tactic(auto)]
+
 ghost use Rattle.model.specs.Refusals.{checked_answer, location, next_leaf};
 ghost use Rattle.answer_numbers.specs.Numbers.{Encodes};
 

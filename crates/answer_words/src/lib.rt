@@ -1,5 +1,7 @@
 // The numbers of an answer as lent words.
 
+#![tactic(auto)]
+
 ghost use Rattle.std.specs.Prelude.{◌≡◌, set};
 ghost use Rattle.answer_numbers.specs.Numbers.{words_of};
 ghost use Rattle.answer_words.specs.Told.{Tells};

@@ -1,5 +1,7 @@
 // The tests of an append after its path: 4, 6, 5.
 
+#![tactic(auto)]
+
 ghost use Rattle.std.specs.Prelude.{◌≡◌, ◌≤◌};
 ghost use Rattle.model.specs.Words.{row_limit};
 ghost use Rattle.append_limits.specs.Limits.{limits_told};
@@ -8,7 +10,7 @@ use model::answer::Refusal;
 use model::id::RowID;
 use model::node::RowPageIndexNodeHeader;
 
-#[derive(Drop)]
+#[derive(Clone, Copy)]
 pub enum Ruling {
     Fine,
     Refused(Refusal),

@@ -1,5 +1,7 @@
 // A new path, from a leaf with the new entry up.
 
+#![tactic(auto)]
+
 ghost use Rattle.std.specs.Prelude.{◌≡◌, ◌+◌, ◌-◌, ◌≤◌, ◌<◌};
 ghost use Rattle.model.specs.Words.{NONE, count, height};
 ghost use Rattle.model.specs.Append.{fresh, new_path};
@@ -14,7 +16,7 @@ use node_read::layout::Layout;
 use node_write::write;
 
 // A page, its first row and the row after its last.
-#[derive(Drop)]
+#[derive(Clone, Copy)]
 pub struct NewPage {
     pub start: RowID,
     pub end: RowID,

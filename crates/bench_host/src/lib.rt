@@ -1,6 +1,8 @@
 // What the benchmarks of the node test, the walk and the leaf walk call, behind C functions that any words may be handed
 // to. No part of the index; the other calls are measured through crates/host.
 
+#![tactic(auto)]
+
 ghost use Rattle.std.specs.Prelude.{◌≡◌};
 ghost use Rattle.model.specs.LeafWalk.{seek};
 ghost use Rattle.next_words.specs.Written.{next_words_of};

@@ -1,5 +1,7 @@
 // Append: a page of rows after the last.
 
+#![tactic(auto)]
+
 ghost use Rattle.std.specs.Prelude.{◌≡◌, ◌≢◌, ◌+◌, ◌<◌, ◌≤◌};
 ghost use Rattle.model.specs.Words.{lent, free_count, free_head, height};
 ghost use Rattle.model.specs.Tree.{Open};

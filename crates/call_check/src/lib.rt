@@ -1,5 +1,7 @@
 // The full check: it accepts exactly the well-formed stores.
 
+#![tactic(auto)]
+
 ghost use Rattle.std.specs.Prelude.{◌≡◌, ◌+◌, ◌-◌, ◌≤◌, ◌<◌};
 ghost use Rattle.model.specs.Words.{lent};
 ghost use Rattle.model.specs.FullCheck.{chain_ends, full_check};

@@ -1,5 +1,7 @@
 // The lookup.
 
+#![tactic(auto)]
+
 ghost use Rattle.std.specs.Prelude.{◌≡◌, true, ◌⊎◌, ℕ, ◌<◌};
 ghost use Rattle.model.specs.Words.{lent};
 ghost use Rattle.model.specs.Tree.{Limit, empty_root};

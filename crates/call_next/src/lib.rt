@@ -1,5 +1,7 @@
 // The leaf walk.
 
+#![tactic(auto)]
+
 ghost use Rattle.std.specs.Prelude.{◌≡◌};
 ghost use Rattle.model.specs.Words.{lent};
 ghost use Rattle.model.specs.Refusals.{next_leaf};

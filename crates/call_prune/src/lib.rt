@@ -1,5 +1,7 @@
 // The prune of a checkpointed prefix.
 
+#![tactic(auto)]
+
 ghost use Rattle.std.specs.Prelude.{false, ◌≡◌, ◌-◌, ◌<◌, length};
 ghost use Rattle.model.specs.Words.{lent};
 ghost use Rattle.model.specs.Tree.{empty_root};

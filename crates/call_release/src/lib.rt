@@ -1,5 +1,7 @@
 // Release: page ids into a lent list, all nodes into the chain, and the store closed.
 
+#![tactic(auto)]
+
 ghost use Rattle.std.specs.Prelude.{◌≡◌, false, ◌+◌, ◌-◌, ◌≤◌, ◌<◌, length};
 ghost use Rattle.model.specs.Words.{lent, fill};
 ghost use Rattle.model.specs.Reading.{page_ids, root_entries, root_nodes, root_visits};

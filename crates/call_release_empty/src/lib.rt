@@ -1,5 +1,7 @@
 // The empty form of release.
 
+#![tactic(auto)]
+
 ghost use Rattle.std.specs.Prelude.{◌≡◌, ◌+◌, ◌-◌, ◌<◌};
 ghost use Rattle.model.specs.Words.{lent};
 ghost use Rattle.model.specs.Release.{destroy_empty};

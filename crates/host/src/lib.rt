@@ -1,6 +1,8 @@
 // The calls for a host that holds its own store: C functions on lent words. Each writes its answer into a lent array of
 // seven words, as far as they fit, and returns the refusal's number, or 0. docs/HOST.md tells how to call them.
 
+#![tactic(auto)]
+
 ghost use Rattle.std.specs.Prelude.{◌≡◌};
 ghost use Rattle.answer_numbers.specs.Numbers.{answer_words};
 ghost use Rattle.answer_words.specs.Told.{Tells};

@@ -1,5 +1,7 @@
 // A host's cursor of two words.
 
+#![tactic(auto)]
+
 ghost use Rattle.std.specs.Prelude.{◌≡◌, get_or};
 ghost use Rattle.model.specs.Words.{pick};
 ghost use Rattle.model.specs.Refusals.{next_leaf};

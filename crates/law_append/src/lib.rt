@@ -1,1 +1,3 @@
 // An append keeps a well-formed store well-formed and adds its entry; a created store is well-formed. Theorems only.
+
+#![tactic(auto)]

@@ -1,1 +1,3 @@
 // What any history of calls answers and leaves. Theorems only.
+
+#![tactic(auto)]

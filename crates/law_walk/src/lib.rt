@@ -1,1 +1,3 @@
 // Laws of whole walks over the leaves.
+
+#![tactic(auto)]

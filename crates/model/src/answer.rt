@@ -3,7 +3,7 @@
 use crate::id::{NodeNo, PageID, RowID};
 
 // Why a call was refused. Nothing that was lent has changed.
-#[derive(Drop)]
+#[derive(Clone, Copy)]
 pub enum Refusal {
     // 1: capacity, number of nodes or length of a new store
     BadParameters,
@@ -34,14 +34,14 @@ pub enum Refusal {
 }
 
 // Of `new`.
-#[derive(Drop)]
+#[derive(Clone, Copy)]
 pub enum Created {
     Done,
     Refused(Refusal),
 }
 
 // Of `try_find_row`.
-#[derive(Drop)]
+#[derive(Clone, Copy)]
 pub enum RowLocation {
     RowPage(PageID),
     NotFound,
@@ -49,7 +49,7 @@ pub enum RowLocation {
 }
 
 // The rows of an appended page, and the nodes that it took.
-#[derive(Drop)]
+#[derive(Clone, Copy)]
 pub struct RowPageIndexInsert {
     pub start_row_id: RowID,
     pub end_row_id: RowID,
@@ -57,13 +57,13 @@ pub struct RowPageIndexInsert {
 }
 
 // Of `insert_row_page`.
-#[derive(Drop)]
+#[derive(Clone, Copy)]
 pub enum Inserted {
     Done(RowPageIndexInsert),
     Refused(Refusal),
 }
 
-#[derive(Drop)]
+#[derive(Clone, Copy)]
 pub struct RowPagePrefixPrune {
     pub removed_entries: u64,
     pub reclaimed_nodes: u64,
@@ -71,13 +71,13 @@ pub struct RowPagePrefixPrune {
 }
 
 // Of `prune_checkpoint_prefix`.
-#[derive(Drop)]
+#[derive(Clone, Copy)]
 pub enum Pruned {
     Done(RowPagePrefixPrune),
     Refused(Refusal),
 }
 
-#[derive(Drop)]
+#[derive(Clone, Copy)]
 pub struct Leaf {
     pub start_row_id: RowID,
     pub end_row_id: RowID,
@@ -85,7 +85,7 @@ pub struct Leaf {
 }
 
 // Of the cursor's `next`.
-#[derive(Drop)]
+#[derive(Clone, Copy)]
 pub enum NextLeaf {
     Found(Leaf),
     Done,
@@ -93,14 +93,14 @@ pub enum NextLeaf {
 }
 
 // Of `destroy` and `destroy_empty`.
-#[derive(Drop)]
+#[derive(Clone, Copy)]
 pub enum Destroyed {
     Done { nodes: u64, pages: u64 },
     Refused(Refusal),
 }
 
 // Of the full check.
-#[derive(Drop)]
+#[derive(Clone, Copy)]
 pub enum Checked {
     WellFormed { entries: u64, nodes: u64, free: u64 },
     Refused(Refusal),

@@ -1,15 +1,15 @@
 // Numbers that must not be mixed up.
 
 // A row of the table.
-#[derive(Drop)]
+#[derive(Clone, Copy)]
 pub struct RowID(pub u64);
 
 // A page of rows.
-#[derive(Drop)]
+#[derive(Clone, Copy)]
 pub struct PageID(pub u64);
 
 // A node of the pool.
-#[derive(Drop)]
+#[derive(Clone, Copy)]
 pub struct NodeNo(pub u64);
 
 impl NodeNo {

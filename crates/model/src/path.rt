@@ -6,7 +6,7 @@ ghost use Rattle.model.specs.Paths.{entered, rooted, trail, turned};
 use crate::id::NodeNo;
 
 // A node, and the next of its entries to follow.
-#[derive(Drop)]
+#[derive(Clone, Copy)]
 pub struct Position {
     pub node: NodeNo,
     pub index: u64,
@@ -31,7 +31,7 @@ impl Position {
 }
 
 // One position for each level, from the root down: heights are at most 31.
-#[derive(Drop)]
+#[derive(Clone, Copy)]
 pub struct Path {
     pub positions: [Position; 32],
     pub depth: usize,

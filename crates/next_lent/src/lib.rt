@@ -1,5 +1,7 @@
 // The leaf walk for callers that keep the cursor by value: it and a list of records are lent by `&mut` for the call.
 
+#![tactic(auto)]
+
 ghost use Rattle.std.specs.Prelude.{◌≤◌};
 
 use model::answer::NextLeaf;
@@ -8,7 +10,7 @@ use model::id::RowID;
 use model::node::PageEntry;
 
 // What a call leaves. No leaf has more entries than the list has records.
-#[derive(Drop)]
+#[derive(Clone, Copy)]
 pub struct LentStep {
     pub answer: NextLeaf,
     pub cursor: RowPageIndexMemCursor,

@@ -1,5 +1,7 @@
 // The entries of a leaf, copied into a lent list of records.
 
+#![tactic(auto)]
+
 ghost use Rattle.std.specs.Prelude.{◌≡◌, ◌<◌, ◌≤◌, length};
 ghost use Rattle.model.specs.Words.{child, fill, row};
 ghost use Rattle.model.specs.LeafWalk.{page_entry};
@@ -11,7 +13,7 @@ use model::node::PageEntry;
 use node_read::layout::Layout;
 
 // The first entries of a leaf, so many of them.
-#[derive(Drop)]
+#[derive(Clone, Copy)]
 pub struct LeafEntries {
     pub layout: Layout,
     pub leaf: NodeNo,

@@ -1,5 +1,7 @@
 // A step of the leaf walk, by value.
 
+#![tactic(auto)]
+
 ghost use Rattle.std.specs.Prelude.{◌≡◌, List, ◌<◌, ◌≤◌};
 ghost use Rattle.model.specs.Reading.{root_leaf, to_row};
 ghost use Rattle.model.specs.LeafWalk.{given, seek};
@@ -20,7 +22,7 @@ use tree_path::path;
 use tree_path::path::Reached;
 
 // What a step by value gives: the answer, the cursor afterwards, and the entries to give out.
-#[derive(Drop)]
+#[derive(Clone, Copy)]
 pub struct LeafStep {
     pub answer: NextLeaf,
     pub cursor: RowPageIndexMemCursor,

@@ -1,5 +1,7 @@
 // The leaf walk for callers that hold the cursor by value and lend plain words.
 
+#![tactic(auto)]
+
 ghost use Rattle.std.specs.Prelude.{◌≡◌, ◌*◌, ◌≤◌, length};
 ghost use Rattle.model.specs.Words.{fill};
 ghost use Rattle.model.specs.LeafWalk as W;
@@ -13,7 +15,7 @@ use next_records::LeafEntries;
 use next_step;
 
 // The answer, and the cursor afterwards.
-#[derive(Drop)]
+#[derive(Clone, Copy)]
 pub struct WordStep {
     pub answer: NextLeaf,
     pub cursor: RowPageIndexMemCursor,

@@ -1,5 +1,7 @@
 // The chain of free nodes.
 
+#![tactic(auto)]
+
 ghost use Rattle.std.specs.Prelude.{◌≡◌, not, true, [], ◌+◌, ◌-◌, ◌≤◌, ◌<◌, eqb, length, set};
 ghost use Rattle.model.specs.Words.{free_count, freed};
 ghost use Rattle.model.specs.Reading.{occ};
@@ -67,7 +69,7 @@ fn is_link(l: Layout, s: &[u64], n: NodeNo) -> bool
 }
 
 // The first nodes of the chain, the number after them, and whether they may be taken.
-#[derive(Drop)]
+#[derive(Clone, Copy)]
 pub struct Wanted {
     pub nodes: [NodeNo; 32],
     pub next: NodeNo,

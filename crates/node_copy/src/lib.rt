@@ -1,5 +1,7 @@
 // A node copied; entries moved to the front.
 
+#![tactic(auto)]
+
 ghost use Rattle.std.specs.Prelude.{◌≡◌, ◌+◌, ◌≤◌, ◌<◌};
 ghost use Rattle.model.specs.Words.{copied, put};
 ghost use Rattle.model.specs.Prune.{moved};

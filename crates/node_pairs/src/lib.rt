@@ -1,5 +1,7 @@
 // Entries of a node: one put, one added.
 
+#![tactic(auto)]
+
 ghost use Rattle.std.specs.Prelude.{◌≡◌, ◌+◌, ◌<◌};
 ghost use Rattle.model.specs.Words.{added, count, put};
 ghost use Rattle.node_read.specs.Layout.{Fits, shape_of};

@@ -1,5 +1,7 @@
 // The place of a row in a node.
 
+#![tactic(auto)]
+
 ghost use Rattle.std.specs.Prelude.{◌≡◌, ℕ, ◌+◌, ◌≤◌, ◌<◌, min, T};
 ghost use Rattle.model.specs.Tree.{pairs_from, rising};
 ghost use Rattle.model.specs.Reading.{last_not_above};

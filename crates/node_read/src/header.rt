@@ -9,7 +9,7 @@ use model::answer::Refusal;
 use model::id::NodeNo;
 
 // Words 0 to 4.
-#[derive(Drop)]
+#[derive(Clone, Copy)]
 pub struct StoreHeader {
     pub layout: Layout,
     pub root: NodeNo,
@@ -17,7 +17,7 @@ pub struct StoreHeader {
     pub free_count: u64,
 }
 
-#[derive(Drop)]
+#[derive(Clone, Copy)]
 pub enum Opened {
     Open(StoreHeader),
     Refused(Refusal),

@@ -8,7 +8,7 @@ use model::id::{NodeNo, PageID, RowID};
 use model::node::RowPageIndexNodeHeader;
 
 // The capacity of a node and the number of nodes: C and P.
-#[derive(Drop)]
+#[derive(Clone, Copy)]
 pub struct Layout {
     pub capacity: u64,
     pub pool: u64,

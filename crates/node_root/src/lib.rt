@@ -1,5 +1,7 @@
 // The test of a root.
 
+#![tactic(auto)]
+
 ghost use Rattle.std.specs.Prelude.{◌≡◌, true, ◌-◌, ◌<◌};
 ghost use Rattle.model.specs.Tree.{empty_root, root_sound, sound};
 ghost use Rattle.node_read.specs.Layout.{Fits, shape_of};

@@ -1,5 +1,7 @@
 // The node test, on any words.
 
+#![tactic(auto)]
+
 ghost use Rattle.std.specs.Prelude.{◌≡◌, true, ℕ, ◌+◌, ◌-◌, ◌≤◌, ◌<◌};
 ghost use Rattle.model.specs.Words.{row};
 ghost use Rattle.model.specs.Tree.{end_sound, node_at, pairs_from, rising, sound};
@@ -11,14 +13,14 @@ use model::node::RowPageIndexNodeHeader;
 use node_read::layout::Layout;
 
 // The row of the next entry on a path, if there is one.
-#[derive(Drop)]
+#[derive(Clone, Copy)]
 pub enum Limit {
     Open,
     Below(RowID),
 }
 
 // A sound node, with the first of its child numbers that is out of range: the count where none is.
-#[derive(Drop)]
+#[derive(Clone, Copy)]
 pub enum NodeTest {
     Unsound,
     Sound(u64),

@@ -1,5 +1,7 @@
 // The nodes that a prune copies into the root, tested before anything is written.
 
+#![tactic(auto)]
+
 ghost use Rattle.std.specs.Prelude.{◌≡◌, ◌+◌, ◌≤◌, ◌<◌, length};
 ghost use Rattle.model.specs.Words.{height};
 ghost use Rattle.node_read.specs.Layout.{Fits, shape_of};
@@ -14,14 +16,14 @@ use node_test;
 use node_test::Limit;
 
 // The first unsound one, or none.
-#[derive(Drop)]
+#[derive(Clone, Copy)]
 pub enum CopyTest {
     Unsound(NodeNo),
     Sound,
 }
 
 // The nodes copied, the top first.
-#[derive(Drop)]
+#[derive(Clone, Copy)]
 pub struct Copies {
     pub answer: CopyTest,
     pub nodes: [NodeNo; 32],
@@ -29,7 +31,7 @@ pub struct Copies {
 }
 
 // No copy at a branch, its child, or the first unsound node.
-#[derive(Drop)]
+#[derive(Clone, Copy)]
 pub enum Copy {
     None,
     Child(NodeNo),

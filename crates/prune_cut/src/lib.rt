@@ -1,5 +1,7 @@
 // The cut at an edge: what it answers, and what it writes.
 
+#![tactic(auto)]
+
 ghost use Rattle.std.specs.Prelude.{◌≡◌, ◌+◌, ◌-◌, ◌<◌};
 ghost use Rattle.model.specs.Refusals.{pruned};
 ghost use Rattle.node_read.specs.Layout.{shape_of};

@@ -1,6 +1,8 @@
 // The edge of a prune: the nodes that stay but lose entries, by their positions. Numbers that were not read mean nothing, so
 // nothing here is found by rows.
 
+#![tactic(auto)]
+
 ghost use Rattle.std.specs.Prelude.{◌≡◌, ℕ, ◌+◌, ◌-◌, ◌≤◌, ◌<◌, get_or, length};
 ghost use Rattle.model.specs.Paths.{no_position};
 ghost use Rattle.node_read.specs.Layout.{Fits, shape_of};
@@ -11,7 +13,7 @@ use model::path::{Path, Position};
 use node_read::layout::Layout;
 
 // On each level of the tree the node that loses entries, with how many, 0 below the last; and how many nodes go.
-#[derive(Drop)]
+#[derive(Clone, Copy)]
 pub struct Boundary {
     pub edge: Path,
     pub gone: u64,

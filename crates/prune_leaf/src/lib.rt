@@ -1,5 +1,7 @@
 // The entries of a leaf against the page ids of a prefix.
 
+#![tactic(auto)]
+
 ghost use Rattle.std.specs.Prelude.{◌≡◌, [], ◌+◌, ◌-◌, ◌≤◌, ◌<◌};
 ghost use Rattle.model.specs.Words.{count};
 ghost use Rattle.model.specs.Prune.{entry_end, on, ran_out};
@@ -11,14 +13,14 @@ use model::id::{NodeNo, RowID};
 use node_read::layout::Layout;
 
 // The ids named so far and where the last entry of them ends; or why the list is refused.
-#[derive(Drop)]
+#[derive(Clone, Copy)]
 pub enum Progress {
     On(usize, RowID),
     Stopped(Refusal),
 }
 
 // How many entries the list names, all of them ending with the prefix; or why it is refused.
-#[derive(Drop)]
+#[derive(Clone, Copy)]
 pub enum Named {
     Entries(u64),
     Refused(Refusal),

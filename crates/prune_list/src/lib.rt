@@ -1,5 +1,7 @@
 // The page ids of a prefix against the leaves, read one after the other until the list is used.
 
+#![tactic(auto)]
+
 ghost use Rattle.std.specs.Prelude.{◌≡◌, [], ◌∷◌, ◌+◌, ◌-◌, ◌≤◌, ◌<◌, length};
 ghost use Rattle.model.specs.Words.{height};
 ghost use Rattle.model.specs.Paths.{entered};
@@ -22,7 +24,7 @@ use tree_turn::turn::Turn;
 
 // What the list names, the path to the leaf of the last entry named, how many entries of that leaf are named, and how many
 // nodes the scan left. On the path each position but the last stands at the entry after the one that leads down.
-#[derive(Drop)]
+#[derive(Clone, Copy)]
 pub struct Prefix {
     pub answer: Named,
     pub path: Path,

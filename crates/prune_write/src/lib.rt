@@ -1,5 +1,7 @@
 // The writes of a prune to nodes that stay, and to the root.
 
+#![tactic(auto)]
+
 ghost use Rattle.std.specs.Prelude.{◌≡◌, reverse, ℕ, ◌+◌, ◌-◌, ◌≤◌, ◌<◌, length};
 ghost use Rattle.model.specs.Words.{count, free_all, free_count};
 ghost use Rattle.model.specs.Prune.{copy_all, trim_all, trimmed};

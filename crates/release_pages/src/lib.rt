@@ -1,5 +1,7 @@
 // The page ids of a tree, leaf by leaf.
 
+#![tactic(auto)]
+
 ghost use Rattle.std.specs.Prelude.{◌≡◌, ◌+◌, ◌-◌, ◌≤◌, ◌<◌, length};
 ghost use Rattle.model.specs.Words.{count, fill};
 ghost use Rattle.model.specs.Reading.{page_ids, root_entries};

@@ -1,5 +1,7 @@
 // The script: records in, a listing out.
 
+#![tactic(auto)]
+
 ghost use Rattle.std.specs.Prelude.{◌≡◌, true, ◌++◌, ◌+◌, ◌≤◌, drop, length, take};
 ghost use Rattle.script_text.specs.Lines.{Puts, capped};
 ghost use Rattle.script_records.specs.Records.{body_length, whole};

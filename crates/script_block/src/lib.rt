@@ -1,5 +1,7 @@
 // The records in a block of bytes that was read ahead, which more bytes may follow.
 
+#![tactic(auto)]
+
 ghost use Rattle.std.specs.Prelude.{◌≡◌, ◌&&◌, false, ◌+◌, ◌-◌, ◌≤◌, leb, drop, length, take};
 ghost use Rattle.script_calls.specs.Steps.{memory};
 ghost use Rattle.script_block.specs.Blocks.{Lists, is_known, known_length};
@@ -8,7 +10,7 @@ use script_step;
 
 // How many bytes of the block its records took, the words in use and the bytes of lines after them, and whether the script
 // goes on.
-#[derive(Drop)]
+#[derive(Clone, Copy)]
 pub struct Block {
     pub used: usize,
     pub taken: usize,

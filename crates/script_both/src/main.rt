@@ -2,6 +2,8 @@
 // has the scripts, each after its length in four bytes, the lowest first. Each is tried on every prefix, so that every record
 // is cut at every byte; then whole, with every length of the C function's output, up to that of the listing and past it.
 
+#![tactic(auto)]
+
 pub mod compare;
 pub mod single;
 
@@ -15,7 +17,7 @@ const STDIN_FILENO: i32 = 0;
 const MARK: u8 = 255;
 
 // How many prefixes end with `bad record`, and on how many the two listings differ.
-#[derive(Drop)]
+#[derive(Clone, Copy)]
 struct Tally {
     bad: u64,
     different: u64,

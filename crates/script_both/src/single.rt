@@ -3,7 +3,7 @@
 ghost use Rattle.std.specs.Prelude.{◌≤◌, length};
 
 // After a block: the words in use, the bytes taken, the place after the lines, and whether the script goes on.
-#[derive(Drop)]
+#[derive(Clone, Copy)]
 struct Listed {
     used: usize,
     taken: usize,

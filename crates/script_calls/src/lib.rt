@@ -1,5 +1,7 @@
 // The calls of a script on its memory, each with its lines.
 
+#![tactic(auto)]
+
 ghost use Rattle.std.specs.Prelude.{◌≡◌, false, [], ◌≤◌, length};
 ghost use Rattle.script_text.specs.Lines.{Puts, line};
 ghost use Rattle.answer_line.specs.Names.{bad_record_name};
@@ -10,7 +12,7 @@ ghost use Rattle.script_calls.specs.Steps.{Does, memory};
 use model::id::{PageID, RowID};
 
 // After a record: the words in use, the place after its lines, and whether the script goes on.
-#[derive(Drop)]
+#[derive(Clone, Copy)]
 pub struct Progress {
     pub used: usize,
     pub at: usize,

@@ -1,5 +1,7 @@
 // A script's create.
 
+#![tactic(auto)]
+
 ghost use Rattle.std.specs.Prelude.{◌≡◌, length};
 ghost use Rattle.answer_numbers.specs.Numbers.{answer_of};
 ghost use Rattle.script_records.specs.Records as R;

@@ -1,6 +1,8 @@
 // The records of a script back into lines of text, as script_encode reads them. A bad record ends the run: its number goes
 // to standard error.
 
+#![tactic(auto)]
+
 use libc::{STDERR_FILENO, STDOUT_FILENO};
 use script_input::name;
 use script_records::{Head, Record};

@@ -2,6 +2,8 @@
 // `release 0`. What follows a `#` is a comment; lines with nothing before it are left out. A wrong line ends the run: its
 // number, and what is wrong with it, goes to standard error.
 
+#![tactic(auto)]
+
 ghost use Rattle.std.specs.Prelude.{◌≤◌};
 
 use libc::{STDERR_FILENO, STDOUT_FILENO};

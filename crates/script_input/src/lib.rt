@@ -1,5 +1,7 @@
 // What script_decode stands on: the records, one by one from standard input, and the names of the calls.
 
+#![tactic(auto)]
+
 pub mod name;
 
 ghost use Rattle.std.specs.Prelude.{◌≡◌, ◌≤◌, ltb, length};

@@ -1,11 +1,13 @@
 // Reads and writes that are made again where a signal came, or where the other end of a pipe is not ready yet.
 
+#![tactic(auto)]
+
 ghost use Rattle.std.specs.Prelude.{◌≤◌, length};
 
 use libc::types::timespec;
 
 // How many bytes a read gave, none at the end of the input; or that it failed.
-#[derive(Drop)]
+#[derive(Clone, Copy)]
 pub struct Read {
     pub count: usize,
     pub failed: bool,

@@ -1,5 +1,7 @@
 // A script's prune.
 
+#![tactic(auto)]
+
 ghost use Rattle.std.specs.Prelude.{◌≤◌, drop, length};
 ghost use Rattle.script_records.specs.Records as R;
 ghost use Rattle.script_records.specs.Read.{body_words};

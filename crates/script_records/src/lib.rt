@@ -1,11 +1,13 @@
 // Records of a script: little-endian numbers in bytes, and what a record asks for.
 
+#![tactic(auto)]
+
 ghost use Rattle.std.specs.Prelude.{◌≡◌, ◌≢◌, ◌+◌, ◌*◌, ◌-◌, ◌/◌, ◌≤◌, ◌<◌, drop, length, take};
 ghost use Rattle.script_records.specs.Records.{asked, request_of, little, words_in};
 ghost use Rattle.script_records.specs.Read.{Copied, Reads, head_of, meant};
 
 // What a record asks for. The page ids of a prune stay in its body.
-#[derive(Drop)]
+#[derive(Clone, Copy)]
 pub enum Record {
     Create(u64, u64, u64),
     Append(u64, u64),
@@ -156,7 +158,7 @@ pub fn read_body(body: &[u8]) -> Record
 }
 
 // The length that bytes begin with: of a whole record, or not.
-#[derive(Drop)]
+#[derive(Clone, Copy)]
 pub enum Head {
     Whole(usize),
     Bad,

@@ -1,6 +1,8 @@
 // The script program: records from standard input, their listing to standard output. The input is read ahead and the lines
 // are written in blocks; those of a record are written before more input is waited for.
 
+#![tactic(auto)]
+
 ghost use Rattle.std.specs.Prelude.{◌≡◌, ◌≤◌, length};
 
 use libc::{STDIN_FILENO, STDOUT_FILENO};
@@ -10,14 +12,14 @@ use script_io;
 use script_turn;
 
 // Where the bytes that were read end, and whether they are the last.
-#[derive(Drop)]
+#[derive(Clone, Copy)]
 struct Input {
     end: usize,
     is_last: bool,
 }
 
 // The words in use, where the bytes lie that were read and not taken, and whether the script goes on.
-#[derive(Drop)]
+#[derive(Clone, Copy)]
 struct State {
     used: usize,
     at: usize,

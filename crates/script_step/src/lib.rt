@@ -1,5 +1,7 @@
 // One record of a script.
 
+#![tactic(auto)]
+
 ghost use Rattle.std.specs.Prelude.{[], ◌∷◌, ◌+◌, ◌≤◌, length};
 ghost use Rattle.model.specs.Words.{free_count};
 ghost use Rattle.script_text.specs.Lines.{Puts, line};

@@ -1,6 +1,8 @@
 // Lines of text in lent bytes: what fits is written, the rest of the bytes stay, and the place after it counts what
 // did not fit too.
 
+#![tactic(auto)]
+
 ghost use Rattle.std.specs.Prelude.{◌≡◌, [], ◌∷◌, ◌+◌, length};
 ghost use Rattle.model.specs.Words.{fill};
 ghost use Rattle.script_text.specs.Lines.{Puts, decimal, line, numbers, newline, space};

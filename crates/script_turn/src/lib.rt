@@ -1,5 +1,7 @@
 // A turn of the script's program: a record, or the last line.
 
+#![tactic(auto)]
+
 ghost use Rattle.std.specs.Prelude.{◌≤◌, length};
 ghost use Rattle.script_calls.specs.Steps.{Does, memory};
 ghost use Rattle.script_step.specs.Script.{turn};

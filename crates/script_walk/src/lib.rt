@@ -1,5 +1,7 @@
 // A script's walk over the leaves.
 
+#![tactic(auto)]
+
 ghost use Rattle.std.specs.Prelude.{◌≡◌, ◌+◌, ◌≤◌, length};
 ghost use Rattle.model.specs.Words.{lent};
 ghost use Rattle.model.specs.LeafWalk as W;
@@ -14,7 +16,7 @@ use model::id::RowID;
 use script_calls::Progress;
 
 // After one step of a walk: the cursor, the place after its line, and whether another follows.
-#[derive(Drop)]
+#[derive(Clone, Copy)]
 pub struct WalkStep {
     pub cursor: RowPageIndexMemCursor,
     pub at: usize,

@@ -61,7 +61,7 @@ fn digit_of(digits: &[u8], k: u64) -> u64 {
 }
 
 // The fewest and the most numbers that a kind takes.
-#[derive(Drop)]
+#[derive(Clone, Copy)]
 pub struct Range {
     pub least: u64,
     pub most: u64,

@@ -1,6 +1,8 @@
 // Lines of text from standard input, each a call on a store of the program's own or a look at it; their answers to standard
 // output, a line each. `docs/STORE.md` lists them. A wrong line is named with its number and changes nothing.
 
+#![tactic(auto)]
+
 pub mod call;
 pub mod kind;
 pub mod step;
@@ -17,7 +19,7 @@ use store_text::number::Numbers;
 use store_text::{line, number};
 
 // What a line asks for: its kind, how many numbers it has, what is wrong with it, and the word that is meant.
-#[derive(Drop)]
+#[derive(Clone, Copy)]
 struct Asked {
     kind: u64,
     count: usize,

@@ -12,7 +12,7 @@ use store_print::wrong;
 
 // The words lent to a call; whether a create is lent as many, or what its capacity and nodes need; the most records or page ids
 // of a list; the cursor.
-#[derive(Drop)]
+#[derive(Clone, Copy)]
 pub struct Settings {
     pub words: usize,
     pub is_fixed: bool,
@@ -21,7 +21,7 @@ pub struct Settings {
 }
 
 // After a line: the settings, and what is wrong with it.
-#[derive(Drop)]
+#[derive(Clone, Copy)]
 pub struct Step {
     pub settings: Settings,
     pub wrong: u64,

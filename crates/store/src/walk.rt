@@ -10,7 +10,7 @@ use next_lent;
 use store_print;
 
 // The cursor after a step, and whether it gave a leaf.
-#[derive(Drop)]
+#[derive(Clone, Copy)]
 pub struct Stepped {
     pub cursor: RowPageIndexMemCursor,
     pub is_leaf: bool,

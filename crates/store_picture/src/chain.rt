@@ -13,7 +13,7 @@ pub const NODES: u64 = 1;
 pub const FREE: u64 = 2;
 
 // How many nodes were followed, and the number after them.
-#[derive(Drop)]
+#[derive(Clone, Copy)]
 pub struct Followed {
     pub count: u64,
     pub next: u64,

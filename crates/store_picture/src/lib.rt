@@ -1,5 +1,7 @@
 // A store drawn for people, on any words: its tree, its free nodes, and the first thing that is wrong with it.
 
+#![tactic(auto)]
+
 pub mod chain;
 pub mod fault;
 pub mod header;
@@ -23,7 +25,7 @@ const DRAWN: u64 = 1;
 const FAULT: u64 = 2;
 
 // A node on a path, the next of its entries to follow, and the row of the next entry on the path to it, where there is one.
-#[derive(Drop)]
+#[derive(Clone, Copy)]
 struct Place {
     node: u64,
     index: u64,

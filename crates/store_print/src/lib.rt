@@ -1,6 +1,8 @@
 // What the store program writes. Each part of a line is written by itself, so nothing is held back when the program waits for
 // input.
 
+#![tactic(auto)]
+
 pub mod wrong;
 
 use answer_numbers;

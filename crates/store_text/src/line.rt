@@ -5,14 +5,14 @@ ghost use Rattle.std.specs.Prelude.{◌≤◌};
 use libc::STDIN_FILENO;
 
 // What is left of the block that was read last.
-#[derive(Drop)]
+#[derive(Clone, Copy)]
 pub struct Input {
     pub at: usize,
     pub end: usize,
 }
 
 // A line: how many bytes it has, and whether the input ended before it. Bytes that do not fit are counted too.
-#[derive(Drop)]
+#[derive(Clone, Copy)]
 pub struct Line {
     pub len: usize,
     pub is_there: bool,
@@ -20,7 +20,7 @@ pub struct Line {
 }
 
 // Where a word begins and ends; both are the same where there is none.
-#[derive(Drop)]
+#[derive(Clone, Copy)]
 pub struct Word {
     pub from: usize,
     pub to: usize,

@@ -4,7 +4,7 @@ use crate::line;
 use crate::line::Word;
 
 // A word as a number of 64 bits.
-#[derive(Drop)]
+#[derive(Clone, Copy)]
 enum Number {
     Value(u64),
     TooLarge,
@@ -12,7 +12,7 @@ enum Number {
 }
 
 // How many numbers a line has; or its first word that is none below 2^64.
-#[derive(Drop)]
+#[derive(Clone, Copy)]
 pub enum Numbers {
     All(usize),
     TooLarge(Word),

@@ -1,5 +1,7 @@
 // Nodes are freed as a walk leaves them: children before parents, left to right.
 
+#![tactic(auto)]
+
 ghost use Rattle.std.specs.Prelude.{◌≡◌, ◌+◌, ◌-◌, ◌≤◌, ◌<◌, take};
 ghost use Rattle.model.specs.Words.{free_all};
 ghost use Rattle.model.specs.Reading.{root_nodes};

@@ -1,5 +1,7 @@
 // What is next on a path, as a walk keeps it: a flag and a row.
 
+#![tactic(auto)]
+
 ghost use Rattle.std.specs.Prelude.{◌≡◌, true, false, ◌-◌};
 ghost use Rattle.model.specs.Reading.{end_fits};
 ghost use Rattle.node_test.specs.Test.{limit_of};

@@ -16,7 +16,7 @@ use node_test::Limit;
 use tree_turn::turn;
 
 // The first unsound node of a path; or the leaf reached, and what is next for it.
-#[derive(Drop)]
+#[derive(Clone, Copy)]
 pub enum Reached {
     Unsound(NodeNo),
     Leaf(NodeNo, Limit),

@@ -1,6 +1,8 @@
 // The right edge of a tree: from the root down by the last entry of each node, once. Where the next rows begin, and where
 // there is room.
 
+#![tactic(auto)]
+
 ghost use Rattle.std.specs.Prelude.{◌≡◌, ◌+◌, ◌-◌, ◌≤◌, ◌<◌};
 ghost use Rattle.model.specs.Words.{max_height};
 ghost use Rattle.model.specs.Append.{append_start};
@@ -16,21 +18,21 @@ use node_test;
 use node_test::Limit;
 
 // The node that gets the new entry, and how many nodes that needs.
-#[derive(Drop)]
+#[derive(Clone, Copy)]
 pub struct Room {
     pub node: NodeNo,
     pub needed: u64,
 }
 
 // The first unsound node of the edge; or all of them are sound.
-#[derive(Drop)]
+#[derive(Clone, Copy)]
 pub enum EdgeTest {
     Unsound(NodeNo),
     Sound,
 }
 
 // The path down the right edge, each node at its last entry; its leaf; and the lowest node with room.
-#[derive(Drop)]
+#[derive(Clone, Copy)]
 pub struct RightEdge {
     pub test: EdgeTest,
     pub path: Path,

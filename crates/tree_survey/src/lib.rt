@@ -1,6 +1,8 @@
 // A reading of the whole tree: its first unsound node, or how many nodes, leaves and entries it has. With ends, a branch
 // whose end is wrong is taken for unsound.
 
+#![tactic(auto)]
+
 ghost use Rattle.std.specs.Prelude.{◌≡◌, true, false, [], ◌∷◌, ◌+◌, ◌-◌, ◌<◌};
 ghost use Rattle.model.specs.Words.{height};
 ghost use Rattle.model.specs.Reading.{root_visits};
@@ -26,7 +28,7 @@ use tree_turn::turn;
 use tree_turn::turn::Turn;
 
 // The reading without ends and the one with ends, made in one walk.
-#[derive(Drop)]
+#[derive(Clone, Copy)]
 pub struct Surveys {
     pub nodes: Survey,
     pub ends: Survey,

@@ -1,5 +1,7 @@
 // What a reading of a tree has counted.
 
+#![tactic(auto)]
+
 ghost use Rattle.std.specs.Prelude.{◌≡◌, ◌+◌, ◌-◌, ◌≤◌, ◌<◌};
 ghost use Rattle.model.specs.Words.{count, height};
 ghost use Rattle.node_read.specs.Layout.{Fits, shape_of};
@@ -9,7 +11,7 @@ use model::id::NodeNo;
 use node_read::layout::Layout;
 
 // What a reading has counted. A sound tree has at most 65,535 nodes, so the counts of one never reach Counts::MOST.
-#[derive(Drop)]
+#[derive(Clone, Copy)]
 pub struct Counts {
     pub nodes: u64,
     pub leaves: u64,
@@ -20,7 +22,7 @@ impl Counts {
     pub const MOST: u64 = 1 << 32;
 }
 
-#[derive(Drop)]
+#[derive(Clone, Copy)]
 pub enum Survey {
     Unsound(NodeNo),
     Counted(Counts),

@@ -1,3 +1,5 @@
 // The walk over a tree in reading order, and the paths to one leaf.
 
+#![tactic(auto)]
+
 pub mod turn;

@@ -50,7 +50,7 @@ pub fn is_done(l: Layout, s: &[u64], at: Position) -> bool
 }
 
 // A child is entered, with what is next for it and the first of its child numbers out of range; or a node is unsound.
-#[derive(Drop)]
+#[derive(Clone, Copy)]
 pub enum Turn {
     Down(NodeNo, Limit, u64),
     Bad(NodeNo),
@@ -79,7 +79,7 @@ pub fn tested(l: Layout, s: &[u64], at: Position, first: u64, next: Limit) -> Tu
 }
 
 // The node is left, or a child is entered.
-#[derive(Drop)]
+#[derive(Clone, Copy)]
 pub enum Step {
     Up,
     Down(NodeNo),
