@@ -15,7 +15,7 @@ insert_after-requires c =
     let f = open_fits a.s.now _ e in
     let g = open_chain a.s.now _ e in
     let r = c.right_edge-edge.ensures.whole c.in-Sound.is in
-    (f.0, ((f.1, g.0, g.1), (r.ready, r.room)))
+    record { fits = f.0; root_lt_pool = (f.1, g.0, g.1); sound_edge = r.ready; free_value = r.room }
 
 pub returns-in-Refused : goal.returns-in-Refused
 returns-in-Refused c =

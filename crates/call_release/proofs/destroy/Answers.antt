@@ -14,10 +14,10 @@ pub returns-in-Refused : goal.returns-in-Refused
 returns-in-Refused c =
     let a = c.args in
     let e = not_open a.s.now a.pivot.0 a.pages.now _ (sym c.«open».ensures ∙ c.in-Refused.is) in
-    (sym (ap (λ (x : Released). x.answer) e), (sym (ap (λ (x : Released). x.words) e), sym (ap (λ (x : Released). x.list) e)))
+    record { answer = sym (ap (λ (x : Released). x.answer) e); words = sym (ap (λ (x : Released). x.words) e); list = sym (ap (λ (x : Released). x.list) e) }
 
 pub returns-in-Unsound : goal.returns-in-Unsound
 returns-in-Unsound c =
     let a = c.args in
     let e = bad-node a.s.now a.pivot.0 a.pages.now _ (is_open _ _ (sym c.«open».ensures ∙ c.in-Open.is)) _ (sym c.survey_tree.ensures ∙ c.in-Unsound.is) in
-    (sym (ap (λ (x : Released). x.answer) e), (sym (ap (λ (x : Released). x.words) e), sym (ap (λ (x : Released). x.list) e)))
+    record { answer = sym (ap (λ (x : Released). x.answer) e); words = sym (ap (λ (x : Released). x.words) e); list = sym (ap (λ (x : Released). x.list) e) }

@@ -15,7 +15,7 @@ pub free_first-requires : goal.free_first-requires
 free_first-requires c =
     let a = c.args in
     let p = c.requires in
-    ready (shape_of a.l) a.l.pool a.s.now a.root.0 p.0.inside p.0.header p.0.sound a.k p.1.0 p.0.room
+    ready (shape_of a.l) a.l.pool a.s.now a.root.0 p.releasable.inside p.releasable.header p.releasable.sound a.k p.k_value.0 p.releasable.room
 
 pub returns : goal.returns
 unfolding released_words

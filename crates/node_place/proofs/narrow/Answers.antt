@@ -9,12 +9,12 @@ use Rattle.node_place.proofs.narrow.Goals as goal
 
 pub loop-i-init : goal.loop-i-init
 loop-i-init c =
-    let p = c.requires.n_lt_pool.1 in (p.0.3, p.1.from, inr refl)
+    let p = c.requires.?nest2 in (p.0.3, p.1.from, inr refl)
 
 pub loop-i-preserved : goal.loop-i-preserved
 loop-i-preserved c =
     let a = c.args in
-    let p = c.requires.n_lt_pool in
+    let p = c.requires.?nest1 in
     let at = c.loop-i in
     let r = c.row.ensures in
     let end = c.part_end-end.ensures in
@@ -28,7 +28,7 @@ loop-i-preserved c =
 pub returns : goal.returns
 returns c =
     let a = c.args in
-    let p = c.requires.n_lt_pool in
+    let p = c.requires.?nest1 in
     let at = c.loop-i in
     let end = c.part_end-end.ensures in
     let some : 1 ≤ a.count = omega arith in
