@@ -24,11 +24,11 @@ scan_node-requires c =
 pub scan_below-requires : goal.scan_below-requires
 scan_below-requires c =
     let a = c.args in
-    let p = c.requires.?nest1 in
+    let p = c.requires in
     let C = shape_of a.l in
     let w = a.s.now in
     let n = a.root.0 in
-    record { fits = c.requires.fits; valid = root-valid false C a.l.pool w n p.0.1 p.0.0 p.0.2; first_value = (p.1.0, refl); begun = (root-passed C a.l.pool w a.end.0 n p.0.0 p.0.2, root-last C a.l.pool w a.end.0 n p.0.0 p.0.2 a.ids.now _ _ (sym (ap (progress_of a.ids.now) c.in-On.is) ∙ c.scan_node.ensures) p.1.1) }
+    record { fits = c.requires.fits; valid = root-valid false C a.l.pool w n p.passed_root.1 p.passed_root.0 p.passed_root.2; first_value = (p.first_value, refl); begun = (root-passed C a.l.pool w a.end.0 n p.passed_root.0 p.passed_root.2, root-last C a.l.pool w a.end.0 n p.passed_root.0 p.passed_root.2 a.ids.now _ _ (sym (ap (progress_of a.ids.now) c.in-On.is) ∙ c.scan_node.ensures) p.ids_nonzero) }
 
 pub returns-in-Stopped : goal.returns-in-Stopped
 unfolding Ending
