@@ -1,6 +1,6 @@
 use Prim.Native.Nat.{◌-◌, ◌<◌, ◌≤◌}
 use mathlib.Core.Path.{refl}
-use mathlib.Core.Logic.{⊎_elim, ◌⊎◌, inr}
+use mathlib.Core.Logic.{◌⊎◌, inr}
 use native.Mathlib.Omega.{arith}
 use Rattle.node_read.specs.Layout.{shape_of}
 use Rattle.model.specs.Words.{row}
@@ -21,10 +21,10 @@ loop-i-preserved c =
     let end = c.part_end-end.ensures in
     let b : at.i < a.count = omega (arith, end, c.loop-i-test.true) in
     let some : 1 ≤ a.count = omega arith in
-    ⊎_elim
-    (λ (t : _). rw t.1 (moved (shape_of a.l) a.s.now a.n.0 a.count some p.n_lt_pool.2 a.q.0 a.step at.place at.i at.invariant b (omega (arith, r, t.0.taken))))
-    (λ (t : _). rw t.1 (kept (shape_of a.l) a.s.now a.n.0 a.count some p.n_lt_pool.2 a.q.0 a.step at.place at.i at.invariant p.le_step.0 b (omega (arith, r, t.0.left))))
-    c.if-row-q.branch
+    elim c.if-row-q.branch [
+      then-row-q w ↦ rw w.place-is (moved (shape_of a.l) a.s.now a.n.0 a.count some p.n_lt_pool.2 a.q.0 a.step at.place at.i at.invariant b (omega (arith, r, w.if-row-q.true)))
+      | else-row-q w ↦ rw w.place-is (kept (shape_of a.l) a.s.now a.n.0 a.count some p.n_lt_pool.2 a.q.0 a.step at.place at.i at.invariant p.le_step.0 b (omega (arith, r, w.if-row-q.false)))
+    ]
 
 pub returns : goal.returns
 returns c =
