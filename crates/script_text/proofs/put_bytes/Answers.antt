@@ -1,4 +1,3 @@
-use Prim.Native.Nat.{◌-◌}
 use mathlib.Core.Path.{refl, ◌∙◌}
 use native.Mathlib.Omega.{arith}
 use lib.Seq.{take_all}
@@ -13,7 +12,7 @@ loop-i-preserved c =
     let s = c in
     let p = c.put_byte-place.ensures in
     let v = c.loop-i.invariant in
-    (omega arith, same p ∙ v.1, one_more s.args.bytes.now _ (omega (arith, s.well-formed)) (omega arith) v.2 p)
+    (omega arith, same p ∙ v.1, one_more s.args.bytes.now _ (omega arith) (omega arith) v.2 p)
 
 pub shape_of-out : goal.shape_of-out
 shape_of-out c = c.loop-i.invariant.1

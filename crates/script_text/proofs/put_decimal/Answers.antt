@@ -6,5 +6,5 @@ use Rattle.script_text.proofs.put_decimal.Goals as goal
 pub returns : goal.returns
 returns c =
     let d = c.decimal-k in
-    let e = d.ensures.1.1 ∙ spells d.result c.args.n (omega arith) d.ensures.1.0 in
+    let e = d.ensures.digits ∙ spells d.result c.args.n (omega arith) d.ensures.len in
     rw e at c.put_bytes.ensures

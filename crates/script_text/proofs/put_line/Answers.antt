@@ -5,4 +5,4 @@ use Rattle.script_text.proofs.put_line.Goals as goal
 
 pub returns : goal.returns
 unfolding line numbers
-returns c = joins (omega (arith, c.well-formed)) c.put_bytes-place.ensures c.put_byte.ensures
+returns c = joins (omega arith) c.put_bytes-place.ensures c.put_byte.ensures

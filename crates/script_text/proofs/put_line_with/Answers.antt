@@ -3,4 +3,4 @@ use Rattle.script_text.proofs.Putting.{line-put}
 use Rattle.script_text.proofs.put_line_with.Goals as goal
 
 pub returns : goal.returns
-returns c = line-put _ _ (omega (arith, c.well-formed)) c.put_bytes-place.ensures c.put_numbers-place.ensures c.put_byte.ensures
+returns c = line-put _ _ (omega arith) c.put_bytes-place.ensures c.put_numbers-place.ensures c.put_byte.ensures
