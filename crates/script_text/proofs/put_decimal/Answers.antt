@@ -1,0 +1,9 @@
+use Rattle.std.proofs.Common.{◌∙◌, arith}
+use Rattle.script_text.proofs.Decimal.{spells}
+use Rattle.script_text.proofs.put_decimal.Goals as goal
+
+pub returns : goal.returns
+returns c =
+    let d = c.decimal-k in
+    let e = d.ensures.digits ∙ spells d.result c.args.n (omega arith) d.ensures.len in
+    rw e at c.put_bytes.ensures

@@ -1,0 +1,6 @@
+use Rattle.std.proofs.Common.{arith}
+use Rattle.script_text.proofs.Putting.{line-put}
+use Rattle.script_text.proofs.put_line_with.Goals as goal
+
+pub returns : goal.returns
+returns c = line-put _ _ (omega arith) c.put_bytes-place.ensures c.put_numbers-place.ensures c.put_byte.ensures
