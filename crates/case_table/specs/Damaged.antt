@@ -1,8 +1,8 @@
 -- Calls on damaged stores. After five appends the root 0 leads to branches 3 and 4, branch 3 to leaves 1 and 2, branch 4
 -- to leaf 5; the chain is 6, 7, … 15.
-use Rattle.std.specs.Prelude.{ℕ, zero, suc, ◌+◌, ◌*◌, ◌-◌, ◌^◌, List, [], ◌∷◌, ◌++◌}
+use Rattle.std.specs.Prelude.{ℕ, ◌+◌, List, [], ◌∷◌, ◌++◌}
 use Rattle.model.specs.Refusals.{Answer, result, refused}
-use Rattle.case_table.specs.Run.{CaseCall, Create, Append, Find, Prune, Walk, Release, ReleaseEmpty, Check, Shape, Set, Put, Line}
+use Rattle.case_table.specs.Run.{Create, Append, Find, Prune, Walk, Release, ReleaseEmpty, Check, Set, Put, Line}
 use Rattle.case_table.specs.Table.{line, NONE, row_limit, five}
 
 abbrev pub header_damaged : Answer

@@ -1,7 +1,7 @@
 -- A run of calls over the definitions of the calls.
-use Rattle.std.specs.Prelude.{ℕ, zero, suc, ◌+◌, ◌*◌, ◌-◌, List, [], ◌∷◌, ◌++◌, map, Bool, true, false, length, set, replicate, take, drop}
-use Rattle.model.specs.Words.{store_shape, lent, pick, word, pool, root, free_head, free_count, store_length, node_size, part, put, height, count, start, end}
-use Rattle.model.specs.Tree.{Node, Level, next, last, over_pairs, Limit, Open, Below, level}
+use Rattle.std.specs.Prelude.{ℕ, zero, suc, ◌+◌, List, [], ◌∷◌, map, length, set, replicate, take, drop}
+use Rattle.model.specs.Words.{store_shape, lent, root, free_head, free_count, store_length, part, put, height}
+use Rattle.model.specs.Tree.{Level, over_pairs, Open}
 use Rattle.model.specs.Reading.{root_tree}
 use Rattle.model.specs.Refusals.{Answer, result, refused, Outcome}
 use Rattle.model.specs.Create.{create}
@@ -9,10 +9,8 @@ use Rattle.model.specs.Lookup.{try_find_row}
 use Rattle.model.specs.Append.{insert_row_page}
 use Rattle.model.specs.Prune.{prune_checkpoint_prefix}
 use Rattle.model.specs.LeafWalk.{seek, page_entry, Stepped, next_leaf_of}
-use Rattle.model.specs.Release.{Released, destroy, destroy_empty}
+use Rattle.model.specs.Release.{destroy, destroy_empty}
 use Rattle.model.specs.FullCheck.{full_check}
-use Rattle.model.specs.declared.node.PageEntry.{PageEntry}
-use Rattle.model.specs.declared.cursor.RowPageIndexMemCursor.{RowPageIndexMemCursor}
 
 pub data CaseCall : Type 0 where
   Create : ℕ → ℕ → ℕ → CaseCall

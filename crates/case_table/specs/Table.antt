@@ -1,7 +1,7 @@
 -- 01, "Cuts and edges: C = 2, start 0, page k holds rows 10(k − 1) to 10k − 1".
-use Rattle.std.specs.Prelude.{ℕ, zero, suc, ◌+◌, ◌*◌, ◌-◌, ◌^◌, List, [], ◌∷◌, ◌++◌}
+use Rattle.std.specs.Prelude.{ℕ, ◌+◌, List, [], ◌∷◌, ◌++◌}
 use Rattle.model.specs.Refusals.{Answer, result, refused}
-use Rattle.case_table.specs.Run.{CaseCall, Create, Append, Find, Prune, Walk, Release, ReleaseEmpty, Check, Shape, Set, Put, Line}
+use Rattle.case_table.specs.Run.{CaseCall, Create, Append, Find, Prune, Walk, Check, Shape, Line}
 
 abbrev pub line : CaseCall → Answer → Line
 line c a = (c, a ∷ [])

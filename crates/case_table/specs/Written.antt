@@ -1,8 +1,8 @@
 -- Words of stores after calls. A create is lent words that are all 7, so a word that no rule names is a 7. With C = 2 node
 -- n starts at word 8 + 8n. A chain is given with the P that ends it.
-use Rattle.std.specs.Prelude.{ℕ, zero, suc, ◌+◌, ◌*◌, ◌-◌, List, [], ◌∷◌, ◌++◌}
-use Rattle.model.specs.Refusals.{Answer, result, refused}
-use Rattle.case_table.specs.Run.{CaseCall, Create, Append, Find, Prune, Walk, Release, ReleaseEmpty, Check, Words, Part, Chain, Set, Put, Load, Line}
+use Rattle.std.specs.Prelude.{ℕ, zero, suc, ◌+◌, List, [], ◌∷◌, ◌++◌}
+use Rattle.model.specs.Refusals.{result, refused}
+use Rattle.case_table.specs.Run.{Create, Append, Find, Prune, Release, ReleaseEmpty, Words, Part, Chain, Load, Line}
 use Rattle.case_table.specs.Table.{line, NONE, free_mark, five, nine, cut_at}
 
 -- words 0 to 7; node n, all its words or the first four; the chain

@@ -1,13 +1,12 @@
 -- A created store is well-formed: node 0 an empty root leaf, the chain 1, 2, … P − 1.
 use Prim.Native.Nat.{ℕ, zero, suc, ◌+◌, ◌-◌, ◌<◌, ◌≤◌}
 use mathlib.Core.List.{List, [], ◌∷◌, ◌++◌}
-use mathlib.Core.Bool.{true}
 use mathlib.Core.Path.{◌≡◌, refl, sym, ap, ◌∙◌, subst}
 use native.Mathlib.Omega.{arith}
 use lib.ListN.{length, drop}
 use lib.Seq.{sets, sets-eq, length-sets}
 use lib.Dec.{leb, ltb, eqb}
-use borrow.Author.Tests.{eqb-true, eqb-false, eq-eqb, le-leb, lt-ltb, ltb-true, ltb-false, leb-true}
+use borrow.Author.Tests.{eqb-true, eqb-false, le-leb, lt-ltb, ltb-true, ltb-false, leb-true}
 use Rattle.model.specs.Words.{Shape, pick, word, root, sized, part, put, emptied, height, count, start, end, Header, NONE, row_limit, free_mark}
 use Rattle.model.specs.Tree.{pairs_from, level, Open}
 use Rattle.model.specs.Reading.{occ, in_pairs, nodes, entries}

@@ -7,7 +7,7 @@ use native.Mathlib.Omega.{arith}
 use lib.ListN.{length, length-append}
 use lib.Dec.{T, leb, ltb, eqb, lt→ltb, le→leb, eqb_refl}
 use Rattle.model.specs.Words.{Shape, NONE, row_limit}
-use Rattle.model.specs.Tree.{Limit, Open, Below, Level, next, last, over_pairs, all_pairs, meets, end_sound, Under, AllSound}
+use Rattle.model.specs.Tree.{Limit, Open, Below, Level, next, last, over_pairs, all_pairs, meets, end_sound, Under}
 use Rattle.model.specs.Reading.{Entry, entries, occ, in_pairs, nodes, end_fits}
 use Rattle.model.specs.Append.{end_over}
 use Rattle.model.proofs.Tests.{and_l, both}

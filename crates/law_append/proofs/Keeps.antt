@@ -19,7 +19,6 @@ use Rattle.model.proofs.Writes.{occ_cons, not_first, not-rest, chain_same}
 use Rattle.law_formed.specs.Well.{Well}
 use Rattle.law_formed.specs.Formed.{Blank, Whole, blank, held, tree_of, Formed}
 use Rattle.law_formed.proofs.Clean.{well-sound}
-use Rattle.law_append.specs.Needed.{needed}
 use Rattle.law_append.specs.Inserted.{Appended}
 use Rattle.law_append.specs.Grown.{path_tree, end_at, up, hung, parted, Grown, begins, hangs, splits}
 use Rattle.law_append.proofs.Right.{Inside, Distinct, Tip, right_at}

@@ -6,10 +6,10 @@ use native.Mathlib.Omega.{arith}
 use native.Mathlib.Nat.{zero-add}
 use lib.Dec.{ltb→lt}
 use Rattle.model.specs.Words.{Shape, height, count, start, end, row, child, row_place, child_place}
-use Rattle.model.specs.Tree.{Limit, Open, Level, pairs_from, level, next, last, all_pairs, AllSound}
+use Rattle.model.specs.Tree.{Limit, Level, pairs_from, level, next, last, all_pairs, AllSound}
 use Rattle.model.specs.Reading.{occ, in_pairs, nodes, to_right}
 use Rattle.model.proofs.Sound.{soundly}
-use Rattle.model.proofs.Frame.{Same, Narrow, occ-append, occ_self, occ_nil, nodes_self, occ-child, all-child, length_pairs}
+use Rattle.model.proofs.Frame.{Same, occ-append, occ_self, occ_nil, nodes_self, occ-child, all-child, length_pairs}
 use Rattle.model.proofs.Writes.{pairs_snoc, pairs-same}
 use Rattle.model.proofs.Once.{some_pairs, once}
 use Rattle.law_append.specs.Grown.{on_last, up}

@@ -1,26 +1,22 @@
 -- The right edge of a well-formed store has no fault.
-use Prim.Native.Nat.{ℕ, zero, suc, ◌+◌, ◌<◌, ◌≤◌}
-use mathlib.Core.List.{List, []}
-use mathlib.Core.Bool.{true}
-use mathlib.Core.Path.{◌≡◌, sym, ◌∙◌}
+use Prim.Native.Nat.{ℕ, zero, suc, ◌+◌, ◌≤◌}
+use mathlib.Core.List.{List}
+use mathlib.Core.Path.{◌≡◌, ◌∙◌}
 use native.Mathlib.Omega.{arith}
-use lib.ListN.{length}
 use lib.Dec.{ltb}
-use borrow.Author.Tests.{le-ltb, le-leb, eq-eqb, ltb-true}
-use Rattle.model.specs.Words.{Shape, root, free_head, free_count, store_length, height, count, row, child, max_height}
+use borrow.Author.Tests.{le-ltb, le-leb}
+use Rattle.model.specs.Words.{Shape, root, count, row, child, max_height}
 use Rattle.model.specs.Tree.{Limit, Open, level, last, sound, AllSound}
 use Rattle.model.specs.Reading.{Reached, leaf, checked, descend, next_row, root_leaf, to_right}
-use Rattle.model.specs.Refusals.{header_ok}
-use Rattle.model.specs.WellFormed.{EmptyRoot}
-use Rattle.model.proofs.Tests.{by_test, is_true}
+use Rattle.model.proofs.Tests.{is_true}
 use Rattle.model.proofs.Sound.{sound-at}
 use Rattle.model.proofs.Once.{own, some_pairs}
 use Rattle.model.proofs.Lookup.{not_empty, is_empty}
-use Rattle.law_formed.specs.Formed.{Blank, Whole, blank, held, tree_of, Formed}
+use Rattle.law_formed.specs.Formed.{Whole, blank, held, tree_of}
 use Rattle.law_formed.proofs.Clean.{well-sound}
 use Rattle.law_formed.proofs.Bridge.{blank_empty}
 use Rattle.law_append.proofs.Right.{right_at}
-use Rattle.law_append.proofs.Last.{few-pairs, last-sound}
+use Rattle.law_append.proofs.Last.{last-sound}
 
 module _ (C : Shape) (P : ℕ) (w : List ℕ) where
   -- a sound node is passed

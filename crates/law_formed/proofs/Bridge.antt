@@ -133,7 +133,7 @@ module _ (C : Shape) (P : ℕ) (w : List ℕ) (h r : ℕ) where
     well-formed-at =
         record {
           fits = F.header;
-          isOpen = formed-root.inside;
+          is_open = formed-root.inside;
           sound = formed-root.sound F.high;
           chain = ns;
           linked = F.chain;

@@ -89,7 +89,7 @@ module _ (L : Arrangement) (w : List ℕ) where
       let long = long-firsts C P w (free_head w) k in
       record {
         fits = H.fits;
-        isOpen = l;
+        is_open = l;
         sound = s;
         chain = firsts C w (free_head w) k;
         linked = c;

@@ -4,7 +4,7 @@ use mathlib.Core.List.{List, [], ◌∷◌, ◌++◌, append-nil}
 use mathlib.Core.Path.{◌≡◌, subst}
 use lib.Dec.{T, leb, ltb, leb→le}
 use Rattle.model.specs.Words.{Shape, row_limit}
-use Rattle.model.specs.Tree.{Limit, Open, Below, meets, end_sound, Level, next, last, over_pairs, all_pairs, Under, AllSound}
+use Rattle.model.specs.Tree.{Limit, Open, Below, end_sound, Level, next, last, over_pairs, all_pairs, Under, AllSound}
 use Rattle.model.specs.Reading.{Entry, entries}
 use Rattle.model.proofs.Tests.{and_l, and_r}
 use Rattle.model.proofs.Sound.{Begins, begins, sound-begins, sound-ends, meets-is}

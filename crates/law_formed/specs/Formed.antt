@@ -1,7 +1,7 @@
 -- A well-formed store, with its root's height, its start and its free nodes at hand.
-use Rattle.std.specs.Prelude.{ℕ, zero, suc, ◌+◌, ◌<◌, ◌≤◌, List, [], ◌≡◌, length, ltb}
+use Rattle.std.specs.Prelude.{ℕ, suc, ◌+◌, ◌<◌, ◌≤◌, List, [], ◌≡◌, length, ltb}
 use Rattle.model.specs.Words.{Shape, pick, capacity, pool, root, free_head, free_count, NONE, row_limit, max_height, Header}
-use Rattle.model.specs.Tree.{Node, Level, level, Open}
+use Rattle.model.specs.Tree.{Level, level, Open}
 use Rattle.model.specs.Reading.{occ, nodes}
 use Rattle.model.specs.WellFormed.{Chain}
 use Rattle.law_formed.specs.Well.{Well}

@@ -1,7 +1,7 @@
 -- A store holds a ledger: it is well-formed, and its entries are the ledger's ranges.
 use Rattle.std.specs.Prelude.{ℕ, List, [], ◌∷◌, ◌≡◌}
-use Rattle.model.specs.Words.{store_shape, Arrangement, root, part, start}
-use Rattle.model.specs.Tree.{Limit, Below}
+use Rattle.model.specs.Words.{store_shape, Arrangement, root, start}
+use Rattle.model.specs.Tree.{Below}
 use Rattle.model.specs.Reading.{Entry, root_entries}
 use Rattle.model.specs.WellFormed.{WellFormed}
 use Rattle.model.specs.Ledger.{Range, Ledger}

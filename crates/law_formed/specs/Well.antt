@@ -1,7 +1,7 @@
 -- The tree part of well-formedness by one recursion: sound, with branch ends that fit, and so all below.
-use Rattle.std.specs.Prelude.{ℕ, zero, suc, ◌<◌, ◌≤◌, List, T, ltb}
+use Rattle.std.specs.Prelude.{ℕ, zero, suc, T, ltb}
 use Rattle.model.specs.Words.{Shape}
-use Rattle.model.specs.Tree.{Node, Limit, Level, last, sound, all_pairs, Under}
+use Rattle.model.specs.Tree.{Limit, Level, last, sound, all_pairs, Under}
 use Rattle.model.specs.Reading.{end_fits}
 
 unfoldable pub Well : Shape → ℕ → (h : ℕ) → Level h → ℕ → Limit → Type 0

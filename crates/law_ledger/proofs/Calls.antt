@@ -1,13 +1,13 @@
 -- The laws of create, append and prune on a store that holds a ledger.
-use Prim.Native.Nat.{ℕ, zero, suc, ◌+◌, ◌-◌, ◌<◌, ◌≤◌}
+use Prim.Native.Nat.{ℕ, suc, ◌+◌, ◌-◌}
 use mathlib.Core.List.{List, [], ◌∷◌, ◌++◌}
 use mathlib.Core.Path.{◌≡◌, refl, sym, ap, ◌∙◌, subst}
 use native.Mathlib.Omega.{arith}
-use lib.ListN.{length, length-append}
-use Rattle.model.specs.Words.{store_shape, Arrangement, shape, capacity, pool, root, free_count, part, height, start}
+use lib.ListN.{length}
+use Rattle.model.specs.Words.{store_shape, Arrangement, shape, capacity, pool, root, height, start}
 use Rattle.model.specs.Tree.{Open, Below, level}
-use Rattle.model.specs.Reading.{Entry, entries, nodes, root_nodes}
-use Rattle.model.specs.Refusals.{Answer, result, refused, Outcome}
+use Rattle.model.specs.Reading.{Entry, entries, nodes}
+use Rattle.model.specs.Refusals.{result, Outcome}
 use Rattle.model.specs.Create.{create}
 use Rattle.model.specs.Append.{insert_row_page}
 use Rattle.model.specs.Prune.{prune_checkpoint_prefix}
@@ -17,15 +17,15 @@ use Rattle.law_formed.specs.Holds.{entries_from, Holds}
 use Rattle.law_formed.proofs.Bridge.{formed_of, formed-root}
 use Rattle.law_formed.proofs.Entries.{from-append, formed-holds, holds-formed}
 use Rattle.law_append.specs.Needed.{entries_end}
-use Rattle.law_append.specs.Inserted.{end_row, wanted, verdict, Appended}
+use Rattle.law_append.specs.Inserted.{end_row, verdict}
 use Rattle.law_append.specs.Created.{numbers_from}
 use Rattle.model.proofs.Still.{insert_still}
 use Rattle.law_append.proofs.Insert.{insert_verdict, insert_keeps}
 use Rattle.law_append.proofs.Create.{create-formed, create_empty}
-use Rattle.law_prune.specs.Pruned.{collapsed_levels, Pruned, Accepts, Follows}
+use Rattle.law_prune.specs.Pruned.{collapsed_levels, Follows}
 use Rattle.law_prune.proofs.Prune.{prune-answer}
 use Rattle.law_ledger.specs.Sizes.{tree_height, tree_size, needed_nodes}
-use Rattle.law_ledger.specs.Laws.{InsertLaw, levels_gone, CutLaw, PruneLaw}
+use Rattle.law_ledger.specs.Laws.{InsertLaw, levels_gone, PruneLaw}
 
 -- entries end where the ledger does
 pub ends : (s : ℕ) (gs : List Range) → entries_end s (entries_from s gs) ≡ end_from s gs

@@ -1,9 +1,8 @@
 -- What create, append and prune do to the ledger that a store holds.
 use Rattle.std.specs.Prelude.{ℕ, ◌+◌, ◌-◌, ◌≤◌, List, [], ◌∷◌, ◌≡◌, length}
 use Rattle.model.specs.Words.{Arrangement, free_count}
-use Rattle.model.specs.Refusals.{Answer, result, refused, Outcome}
+use Rattle.model.specs.Refusals.{result, refused, Outcome}
 use Rattle.model.specs.Append.{insert_row_page}
-use Rattle.model.specs.Prune.{prune_checkpoint_prefix}
 use Rattle.model.specs.Ledger.{Range, Ledger, ledger_end, ledger_append, Cut, refuses, leaves}
 use Rattle.law_formed.specs.Holds.{Holds}
 use Rattle.law_append.specs.Inserted.{verdict}

@@ -1,6 +1,6 @@
 -- The sizes of a store's tree that answers speak of.
 use Rattle.std.specs.Prelude.{ℕ, List, length}
-use Rattle.model.specs.Words.{store_shape, Arrangement, root, part, height}
+use Rattle.model.specs.Words.{store_shape, Arrangement, root, height}
 use Rattle.model.specs.Reading.{root_tree, root_nodes}
 use Rattle.law_append.specs.Needed.{needed}
 

@@ -1,25 +1,23 @@
 -- The call on a well-formed store: its first checks, and that the rest goes by the entries.
-use Prim.Native.Nat.{ℕ, suc, ◌+◌, ◌<◌, ◌≤◌}
-use mathlib.Core.List.{List, [], ◌∷◌, ◌++◌}
+use Prim.Native.Nat.{ℕ, suc}
+use mathlib.Core.List.{List}
 use mathlib.Core.Bool.{true, false, ◌||◌}
 use mathlib.Core.Path.{◌≡◌, sym, ap, ◌∙◌, subst}
 use native.Mathlib.Omega.{arith}
-use lib.ListN.{length, length-append}
-use lib.Dec.{leb, ltb, eqb, ltb→lt}
-use borrow.Author.Tests.{le-ltb, le-leb, eq-eqb, ne_eqb}
-use Rattle.model.specs.Words.{Shape, pick, root, free_head, free_count, store_length, height, count, start, max_height}
+use lib.ListN.{length}
+use lib.Dec.{leb, eqb}
+use borrow.Author.Tests.{le-leb, ne_eqb}
+use Rattle.model.specs.Words.{Shape, pick, root, height, start, max_height}
 use Rattle.model.specs.Tree.{node_at, Open, sound, empty_root, root_sound, Level, level}
-use Rattle.model.specs.Reading.{visits, entries, nodes}
-use Rattle.model.specs.WellFormed.{Chain, EmptyRoot}
-use Rattle.model.specs.Refusals.{refused, Outcome, header_ok}
+use Rattle.model.specs.Reading.{visits, entries}
+use Rattle.model.specs.Refusals.{refused, Outcome}
 use Rattle.model.specs.Prune.{Scan, on, scan, ran_out, prune_scanned, prune_root, prune_checkpoint_prefix}
-use Rattle.model.proofs.Tests.{by_test, is_true}
+use Rattle.model.proofs.Tests.{is_true}
 use Rattle.model.proofs.Sound.{sound-at}
-use Rattle.model.proofs.Frame.{length_pairs, occ-append}
 use Rattle.model.proofs.Once.{own}
 use Rattle.model.proofs.Lookup.{not_empty, is_empty}
 use Rattle.law_formed.specs.Well.{Well}
-use Rattle.law_formed.specs.Formed.{Blank, Whole, blank, held, tree_of, Formed}
+use Rattle.law_formed.specs.Formed.{Blank, tree_of, Formed}
 use Rattle.law_formed.proofs.Clean.{well-sound}
 use Rattle.law_formed.proofs.Bridge.{blank_empty, formed-root}
 use Rattle.law_formed.proofs.Opens.{formed-header}

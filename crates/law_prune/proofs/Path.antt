@@ -7,7 +7,7 @@ use native.Mathlib.Omega.{arith}
 use lib.ListN.{length}
 use lib.Dec.{ltb, eqb, ltb→lt, eqb→eq}
 use borrow.Author.Tests.{ltb-true}
-use Rattle.model.specs.Words.{Shape, height, count, start, end, row, child, row_place, child_place, Header}
+use Rattle.model.specs.Words.{Shape, height, count, end, row, child, row_place, child_place, Header}
 use Rattle.model.specs.Tree.{Limit, Open, Level, pairs_from, node_with, level, next, last, all_pairs, AllSound}
 use Rattle.model.specs.Reading.{occ, in_pairs, nodes}
 use Rattle.model.specs.Cut.{Rest, gone, stays, if_gone, keep, cut_pairs, trim, cut, trims_pairs, trims}

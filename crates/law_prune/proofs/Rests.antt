@@ -1,5 +1,5 @@
 -- What is left of a subtree: small laws.
-use Prim.Native.Nat.{ℕ, zero, suc, ◌<◌, ◌≤◌}
+use Prim.Native.Nat.{ℕ, suc, ◌<◌, ◌≤◌}
 use mathlib.Core.List.{List, [], ◌∷◌}
 use mathlib.Core.Path.{◌≡◌, refl, sym, ap}
 use native.Mathlib.Omega.{arith}
@@ -7,12 +7,9 @@ use lib.ListN.{length}
 use lib.Dec.{T, ltb, eqb}
 use borrow.Author.Tests.{lt-ltb, eq-eqb}
 use Rattle.model.specs.Words.{pick}
-use Rattle.model.specs.Tree.{Node, Level, Limit, Open, next, last, all_pairs, AllSound}
+use Rattle.model.specs.Tree.{Node, Level}
 use Rattle.model.specs.Cut.{Rest, gone, stays, keep, cut_pairs, trim, cut}
 use Rattle.model.proofs.Tests.{by_test}
-use Rattle.model.proofs.Sound.{soundly}
-use Rattle.model.proofs.Frame.{Narrow}
-use Rattle.law_formed.specs.Well.{Well}
 
 -- the row of a pair that stays
 abbrev pub up_to : ℕ → ℕ → ℕ

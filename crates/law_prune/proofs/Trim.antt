@@ -176,7 +176,8 @@ module _ (C : Shape) (P : ℕ) (w : List ℕ) (hd : Header C.cap P w) (n k e : �
 moved_word : (C : Shape) (w : List ℕ) (n k i m a : ℕ) → a < 8 → word (moved C w n k i m) a ≡ word w a
 unfolding moved
 moved_word C w n k i zero a l = refl
-moved_word C w n k i (suc m) a l = moved_word C _ n k (i + 1) m a l ∙ put_word C _ n (child_place i) _ a l ∙ put_word C w n (row_place i) _ a l
+moved_word C w n k i (suc m) a l =
+    moved_word C (put C (put C w n (row_place i) (row C w n (k + i))) n (child_place i) (child C w n (k + i))) n k (i + 1) m a l ∙ put_word C _ n (child_place i) _ a l ∙ put_word C w n (row_place i) _ a l
 
 trimmed-word : (C : Shape) (w : List ℕ) (n k e a : ℕ) → a < 8 → word (trimmed C w n k e) a ≡ word w a
 unfolding trimmed

@@ -3,7 +3,7 @@ use Rattle.std.specs.Prelude.{ℕ, suc, ◌+◌, ◌-◌, ◌≤◌, List, [], �
 use Rattle.model.specs.Words.{Shape, root}
 use Rattle.model.specs.Tree.{Open}
 use Rattle.model.specs.Cut.{cut}
-use Rattle.law_prune.specs.Cutting.{Tree, left_tree}
+use Rattle.law_prune.specs.Cutting.{left_tree}
 use Rattle.model.specs.Reading.{Entry, entries, occ, nodes}
 use Rattle.model.specs.Refusals.{result, refused, Outcome}
 use Rattle.model.specs.Ledger.{Cut, refuses, leaves}

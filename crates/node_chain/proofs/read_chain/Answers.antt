@@ -1,0 +1,61 @@
+use Prim.Native.Nat.{◌-◌}
+use mathlib.Core.Path.{◌≡◌, refl, sym, ap, ◌∙◌}
+use mathlib.Core.Bool.{false≢true}
+use mathlib.Core.List.{[]}
+use native.Mathlib.Omega.{arith}
+use borrow.Author.Tests.{not-true, not-false}
+use native.Mathlib.Nat.{sub-zero}
+use lib.ListN.{length-set}
+use Rattle.node_read.specs.Layout.{shape_of}
+use Rattle.model.specs.Reading.{occ}
+use Rattle.model.specs.Append.{chain_sound, past}
+use Rattle.node_chain.specs.Chain.{listed}
+use Rattle.node_write.proofs.Turns.{turn, stop}
+use Rattle.model.specs.declared.node.RowPageIndexNodeHeader.{RowPageIndexNodeHeader}
+use Rattle.node_chain.proofs.Links.{link_of, link-is, listed-set, linked, broken, firsts-turn, firsts-done}
+use Rattle.node_chain.proofs.read_chain.Goals as goal
+
+pub loop-i-init : goal.loop-i-init
+unfolding listed
+loop-i-init c = (omega arith, refl, rw sub-zero, rw sub-zero, rw sub-zero)
+
+pub returns-then-not-link : goal.returns-then-not-link
+returns-then-not-link c =
+    broken _ _ _ _ _ _ _ c.loop-i-test.true c.loop-i.invariant.2 (λ p. false≢true (sym (sym c.is_link-link.ensures ∙ c.if-not-link.true) ∙ link-is _ _ _ _ _ p))
+
+pub returns-then-seen : goal.returns-then-seen
+returns-then-seen c =
+    broken _ _ _ _ _ _ _ c.loop-i-test.true c.loop-i.invariant.2 (λ p. false≢true (rw c.if-seen.true at c.holds-seen.ensures ∙ p.new))
+
+pub header-link-requires : goal.header-link-requires
+unfolding occ
+header-link-requires c =
+    let a = c.args in
+    let g = sym c.is_link-link.ensures ∙ c.if-not-link.false in
+    let p = link_of (shape_of a.l) a.l.pool a.s.now c.loop-i.n.0 [] g refl in
+    record { fits = c.requires.fits; n_lt_pool = p.inside }
+
+pub loop-i-preserved : goal.loop-i-preserved
+unfolding past
+loop-i-preserved c =
+    let l = c.loop-i in
+    let seen = listed l.nodes 0 l.i in
+    let next = (ap (λ (h : RowPageIndexNodeHeader). h.count) c.header-link.ensures) in
+    let more = listed-set l.nodes l.i l.n (omega arith) in
+    let g = sym c.is_link-link.ensures ∙ c.if-not-link.false in
+    let p = link_of _ _ _ l.n.0 seen g (sym (rw c.if-seen.false at c.holds-seen.ensures)) in (
+      omega arith,
+      length-set l.nodes l.i l.n ∙ l.invariant.1,
+      l.invariant.2 ∙ linked _ _ _ _ _ _ _ c.loop-i-test.true p ∙ rw (more, next),
+      l.invariant.3 ∙ firsts-turn _ _ _ _ _ seen c.loop-i-test.true ∙ rw (more, next),
+      l.invariant.4 ∙ turn (past _ _ _) _ _ c.loop-i-test.true ∙ rw next,
+    )
+
+pub returns : goal.returns
+unfolding chain_sound past
+returns c =
+    let l = c.loop-i in
+    let all : l.i ≡ c.args.k = omega arith in (
+      sym (l.invariant.2 ∙ stop (chain_sound _ _ _ _ _) _ _ c.loop-i-test.false),
+      λ z. (ap (listed l.nodes 0) (sym all) ∙ sym (l.invariant.3 ∙ firsts-done _ _ _ _ _ (listed l.nodes 0 l.i) c.loop-i-test.false), sym (l.invariant.4 ∙ stop (past _ _ _) _ _ c.loop-i-test.false)),
+    )

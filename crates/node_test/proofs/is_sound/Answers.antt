@@ -1,0 +1,47 @@
+use borrow.Author.Tests.{not-true, not-false}
+use native.Mathlib.Omega.{arith}
+use Prim.Native.Nat.{ℕ}
+use mathlib.Core.Path.{◌∙◌, ap, sym}
+use mathlib.Core.Bool.{false≢true}
+use Rattle.node_read.specs.Layout.{shape_of}
+use Rattle.model.specs.Words.{count, row}
+use Rattle.model.specs.Tree.{rising, pairs_from}
+use Rattle.model.specs.declared.node.RowPageIndexNodeHeader.{RowPageIndexNodeHeader}
+use Rattle.node_test.specs.Test.{limit_of}
+use Rattle.node_test.proofs.Rows.{Facts, unsound_if, sound_if}
+use Rattle.node_test.proofs.is_sound.Goals as goal
+
+pub returns-then-h-height : goal.returns-then-h-height
+returns-then-h-height c = let a = c.args in sym (unsound_if (shape_of a.l) a.s.now a.n.0 a.height a.row.0 (limit_of a.next) (λ f. c.if-h-height.true (ap (λ (h : RowPageIndexNodeHeader). h.height) c.header-h.ensures ∙ f.high)))
+
+pub returns-then-count-lt1 : goal.returns-then-count-lt1
+returns-then-count-lt1 c = let a = c.args in sym (unsound_if (shape_of a.l) a.s.now a.n.0 a.height a.row.0 (limit_of a.next) (λ f. omega (arith, c.if-count-lt1.true, ap (λ (h : RowPageIndexNodeHeader). h.count) c.header-h.ensures)))
+
+pub returns-then-l-count : goal.returns-then-l-count
+returns-then-l-count c = let a = c.args in sym (unsound_if (shape_of a.l) a.s.now a.n.0 a.height a.row.0 (limit_of a.next) (λ f. omega (arith, c.if-l-count.true, ap (λ (h : RowPageIndexNodeHeader). h.count) c.header-h.ensures)))
+
+pub returns-then-h-row : goal.returns-then-h-row
+returns-then-h-row c = let a = c.args in sym (unsound_if (shape_of a.l) a.s.now a.n.0 a.height a.row.0 (limit_of a.next) (λ f. c.if-h-row.true (ap (λ (h : RowPageIndexNodeHeader). h.start_row_id.0) c.header-h.ensures ∙ f.begin)))
+
+pub returns-then-row : goal.returns-then-row
+returns-then-row c = let a = c.args in sym (unsound_if (shape_of a.l) a.s.now a.n.0 a.height a.row.0 (limit_of a.next) (λ f. c.if-row.true (c.row.ensures ∙ f.first)))
+
+pub returns-then-not-ends : goal.returns-then-not-ends
+returns-then-not-ends c =
+    let ended = rw (c.row-last.ensures, c.header-h.ensures) at c.end_sound-ends.ensures in
+    sym (unsound_if _ _ _ _ _ _ (λ f. false≢true (sym c.if-not-ends.true ∙ ended ∙ f.ends)))
+
+pub returns : goal.returns
+returns c =
+    let a = c.args in
+    let hdr = c.header-h.ensures in
+    let f : Facts (shape_of a.l) a.s.now a.n.0 a.height a.row.0 (limit_of a.next) =
+    record {
+      high = sym (ap (λ (h : RowPageIndexNodeHeader). h.height) hdr) ∙ c.if-h-height.false;
+      some = omega (arith, c.if-count-lt1.false, ap (λ (h : RowPageIndexNodeHeader). h.count) hdr);
+      many = omega (arith, c.if-l-count.false, ap (λ (h : RowPageIndexNodeHeader). h.count) hdr);
+      begin = sym (ap (λ (h : RowPageIndexNodeHeader). h.start_row_id.0) hdr) ∙ c.if-h-row.false;
+      first = sym c.row.ensures ∙ c.if-row.false;
+      ends = sym (rw (c.row-last.ensures, hdr) at c.end_sound-ends.ensures) ∙ c.if-not-ends.false;
+    } in
+    c.rises.ensures ∙ ap (λ (h : RowPageIndexNodeHeader). rising (pairs_from (shape_of a.l) a.s.now (λ (x : ℕ). x) a.n.0 0 h.count)) hdr ∙ sym (sound_if (shape_of a.l) a.s.now a.n.0 a.height a.row.0 (limit_of a.next) f)

@@ -1,0 +1,19 @@
+use Prim.Native.Nat.{ℕ, ◌-◌, ◌≤◌}
+use mathlib.Core.Path.{◌≡◌}
+use Rattle.node_read.specs.Layout.{shape_of}
+use Rattle.model.specs.Words.{row}
+use Rattle.model.specs.Tree.{rising, pairs_from}
+use Rattle.node_test.proofs.Rows.{rest}
+use Rattle.node_test.proofs.rises.Given as goal
+
+abbrev pub invariant-loop-i : goal.invariant-loop-i
+invariant-loop-i l =     (1 ≤ l.i) × (l.i ≤ l.count) × (rising (pairs_from (shape_of l.l) l.s (λ (x : ℕ). x) l.n.0 0 l.count) ≡ rest (shape_of l.l) l.s l.n.0 l.last l.i l.count) × (l.last ≡ row (shape_of l.l) l.s l.n.0 (l.i - 1))
+
+abbrev pub decreases-loop-i : goal.decreases-loop-i
+decreases-loop-i l = l.count - l.i
+
+abbrev pub invariant-loop-i-2 : goal.invariant-loop-i-2
+invariant-loop-i-2 l = (1 ≤ l.i) × (l.i ≤ l.count) × (rising (pairs_from (shape_of l.l) l.s (λ (x : ℕ). x) l.n.0 0 l.count) ≡ rest (shape_of l.l) l.s l.n.0 l.last l.i l.count)
+
+abbrev pub decreases-loop-i-2 : goal.decreases-loop-i-2
+decreases-loop-i-2 l = l.count - l.i

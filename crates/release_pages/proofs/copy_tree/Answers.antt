@@ -1,0 +1,48 @@
+use mathlib.Core.Bool.{false}
+use mathlib.Core.Path.{refl, sym, ◌∙◌}
+use native.Mathlib.Omega.{arith}
+use Rattle.node_read.specs.Layout.{shape_of}
+use Rattle.model.proofs.Fill.{length-fill}
+use Rattle.tree_turn.proofs.Turns.{sure, at_top, step_room, step-short}
+use Rattle.release_pages.proofs.Taking.{start-taking, all-taken, leaf_room, takes_out, takes_in}
+use Rattle.release_pages.proofs.copy_tree.Goals as goal
+
+pub loop-path-init : goal.loop-path-init
+loop-path-init c = let a = c.args in rw c.rooted-path.ensures (start-taking (shape_of a.l) a.l.pool a.s.now a.node.0 a.pages.now c.requires.releasable c.requires.node_in_bounds, refl)
+
+pub untested-requires : goal.untested-requires
+untested-requires c = let t = at_top (sure c.loop-path.invariant.0.walk) c.loop-path-test.true in record { fits = c.requires.releasable.header; node_lt_pool = (t.inside, t.narrow) }
+
+pub copy_leaf-place-requires : goal.copy_leaf-place-requires
+copy_leaf-place-requires c =
+    let x = c.loop-path.invariant.0 in
+    let z = c.loop-path-test.true in
+    let t = at_top (sure x.walk) z in
+    record { fits = c.requires.releasable.header; n_lt_pool = (t.inside, t.narrow, leaf_room x z (sym c.in-Up.is ∙ c.untested.ensures)) }
+
+pub loop-path-smaller-in-Up : goal.loop-path-smaller-in-Up
+loop-path-smaller-in-Up c = (takes_out c.loop-path.invariant.0 c.loop-path-test.true (sym c.in-Up.is ∙ c.untested.ensures)).less
+
+pub loop-path-preserved-in-Up : goal.loop-path-preserved-in-Up
+loop-path-preserved-in-Up c =
+    let x = c.loop-path in
+    rw (c.copy_leaf-place.ensures.after, c.copy_leaf-place.ensures.list)
+    ((takes_out x.invariant.0 c.loop-path-test.true (sym c.in-Up.is ∙ c.untested.ensures)).taking, length-fill x.pages x.place _ ∙ x.invariant.1)
+
+pub turned-requires : goal.turned-requires
+turned-requires c = omega (arith, step-short (sure c.loop-path.invariant.0.walk) c.loop-path-test.true (sym c.in-Down.is ∙ c.untested.ensures), c.requires.releasable.header.cap-high)
+
+pub bounds-path-depth : goal.bounds-path-depth
+bounds-path-depth c = step_room (sure c.loop-path.invariant.0.walk) c.loop-path-test.true (sym c.in-Down.is ∙ c.untested.ensures)
+
+pub loop-path-smaller : goal.loop-path-smaller
+loop-path-smaller c = rw (c.entered.ensures, c.turned.ensures) (takes_in c.loop-path.invariant.0 c.loop-path-test.true (sym c.in-Down.is ∙ c.untested.ensures)).less
+
+pub loop-path-preserved : goal.loop-path-preserved
+loop-path-preserved c = rw (c.entered.ensures, c.turned.ensures) ((takes_in c.loop-path.invariant.0 c.loop-path-test.true (sym c.in-Down.is ∙ c.untested.ensures)).taking, c.loop-path.invariant.1)
+
+pub shape_of-pages : goal.shape_of-pages
+shape_of-pages c = c.loop-path.invariant.1
+
+pub returns : goal.returns
+returns c = all-taken (rw c.rooted-path.ensures at c.loop-path.invariant.0) (omega (arith, c.loop-path-test.false))

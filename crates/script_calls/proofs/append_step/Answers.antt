@@ -1,0 +1,13 @@
+use lib.Seq.{length-take-le}
+use mathlib.Core.Path.{sym, ◌∙◌}
+use Rattle.script_calls.proofs.Performing.{appends}
+use Rattle.script_calls.proofs.append_step.Goals as goal
+
+pub slice_bounds-insert_row_page-end-2 : goal.slice_bounds-insert_row_page-end-2
+slice_bounds-insert_row_page-end-2 c = let s = c.args in sym (length-take-le s.used s.s.now c.requires)
+
+pub returns : goal.returns
+returns c =
+    let x = c.args in
+    let r = c.insert_row_page-a.ensures in
+    appends x.s.now x.out.now x.used _ _ _ _ _ _ _ (c.inserted_numbers-n.ensures.answer ∙ r.0) r.1 c.put_answer-place.ensures

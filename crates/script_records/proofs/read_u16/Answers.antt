@@ -1,0 +1,6 @@
+use native.Mathlib.Omega.{arith}
+use Rattle.script_records.proofs.Little.{halves}
+use Rattle.script_records.proofs.read_u16.Goals as goal
+
+pub returns : goal.returns
+returns c = halves (omega arith) c.read_u8-low.ensures c.read_u8-high.ensures
