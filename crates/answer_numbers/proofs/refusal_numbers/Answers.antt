@@ -5,4 +5,4 @@ use Rattle.answer_numbers.proofs.refusal_numbers.Goals as goal
 
 pub returns : goal.returns
 unfolding answer_words
-returns c = encodes (refusal-fits c.args.r) (rw c.number_of_lem.ensures refl)
+returns c = encodes (refusal-fits c.args.r) (rw c.number_of-x.ensures refl)

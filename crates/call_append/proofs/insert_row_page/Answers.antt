@@ -6,7 +6,9 @@ use Rattle.call_append.proofs.FromHeader.{insert_refused, insert_unsound, insert
 use Rattle.call_append.proofs.insert_row_page.Goals as goal
 
 pub right_edge-edge-requires : goal.right_edge-edge-requires
-right_edge-edge-requires c = open_fits c.args.s.now _ (sym c.«open».ensures ∙ c.in-Open.is)
+right_edge-edge-requires c =
+    let both = open_fits c.args.s.now _ (sym c.«open».ensures ∙ c.in-Open.is) in
+    record { fits = both.0; root_lt_pool = both.1 }
 
 pub insert_after-requires : goal.insert_after-requires
 insert_after-requires c =
@@ -15,7 +17,7 @@ insert_after-requires c =
     let f = open_fits a.s.now _ e in
     let g = open_chain a.s.now _ e in
     let r = c.right_edge-edge.ensures.whole c.in-Sound.is in
-    (f.0, ((f.1, g.0, g.1), (r.ready, r.room)))
+    record { fits = f.0; root_lt_pool = (f.1, g.0, g.1); sound_edge = r.ready; free_value = r.room }
 
 pub returns-in-Refused : goal.returns-in-Refused
 returns-in-Refused c =

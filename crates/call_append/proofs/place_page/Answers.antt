@@ -11,8 +11,8 @@ use Rattle.call_append.proofs.place_page.Goals as goal
 pub hang_page-requires : goal.hang_page-requires
 hang_page-requires c =
     let p = c.requires in
-    let h = p.1.1.1.hangs (omega (arith, c.if-room-eq0.true)) in
-    record { fits = p.0; n_lt_pool = h }
+    let h = p.usable.hangs (omega (arith, c.if-room-eq0.true)) in
+    record { fits = p.fits; n_lt_pool = h }
 
 pub returns-then-room-eq0 : goal.returns-then-room-eq0
 returns-then-room-eq0 c =
@@ -24,7 +24,7 @@ pub returns-then-not-sound : goal.returns-then-not-sound
 returns-then-not-sound c =
     let a = c.args in
     let p = c.requires in
-    let t = rw p.1.0.1 at (sym c.read_chain-wanted.ensures.ok ∙ c.if-not-sound.true) in
+    let t = rw p.root_lt_pool.1 at (sym c.read_chain-wanted.ensures.ok ∙ c.if-not-sound.true) in
     let q = placed-bad (shape_of a.h.layout) a.h.layout.pool a.s.now a.h.root.0 a.new.start.0 a.new.end.0 a.new.page.0 (room_of a.room) t in
     record { answer = sym (ap (λ (o : Outcome). o.answer) q); words = sym (ap (λ (o : Outcome). o.words) q) }
 
@@ -36,10 +36,10 @@ grow_tree-requires c =
     let t = sym c.read_chain-wanted.ensures.ok ∙ g in
     let f = (c.read_chain-wanted.ensures.given g).0 in
     let k : 1 ≤ a.room.needed = omega (arith, c.if-room-eq0.false) in
-    (p.0, ((p.1.0.0, p.1.1.0), ((k, p.1.1.1), (listed-inside (shape_of a.h.layout) a.h.layout.pool a.s.now _ _ _ t f, head_apart (shape_of a.h.layout) a.h.layout.pool a.s.now _ _ _ a.h.root.0 t f k p.1.1.1.high))))
+    record { fits = p.fits; root_lt_pool = (p.root_lt_pool.0, p.root_height_value); le_needed = (k, p.usable); inside = (listed-inside (shape_of a.h.layout) a.h.layout.pool a.s.now _ _ _ t f, head_apart (shape_of a.h.layout) a.h.layout.pool a.s.now _ _ _ a.h.root.0 t f k p.usable.high) }
 
 pub overflow_sub-h : goal.overflow_sub-h
-overflow_sub-h c = let p = c.requires in omega (arith, p.1.0.2, p.1.1.1.free)
+overflow_sub-h c = let p = c.requires in omega (arith, p.root_lt_pool.2, p.usable.free)
 
 pub returns : goal.returns
 returns c =
@@ -47,7 +47,7 @@ returns c =
     let a = c.args in
     let p = c.requires in
     let g = c.if-not-sound.false in
-    let t = rw p.1.0.1 at (sym x.read_chain-wanted.ensures.ok ∙ g) in
-    let f = rw p.1.0.1 at (x.read_chain-wanted.ensures.given g) in
+    let t = rw p.root_lt_pool.1 at (sym x.read_chain-wanted.ensures.ok ∙ g) in
+    let f = rw p.root_lt_pool.1 at (x.read_chain-wanted.ensures.given g) in
     let q = placed-good (shape_of a.h.layout) a.h.layout.pool a.s.now a.h.root.0 a.new.start.0 a.new.end.0 a.new.page.0 (room_of a.room) t _ _ f.0 f.1 in
-    record { answer = sym (ap (λ (o : Outcome). o.answer) q); words = c.set_chain.ensures ∙ rw (c.grow_tree.ensures, p.1.0.2) (sym (ap (λ (o : Outcome). o.words) q)) }
+    record { answer = sym (ap (λ (o : Outcome). o.answer) q); words = c.set_chain.ensures ∙ rw (c.grow_tree.ensures, p.root_lt_pool.2) (sym (ap (λ (o : Outcome). o.words) q)) }

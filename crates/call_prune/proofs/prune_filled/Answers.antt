@@ -19,7 +19,7 @@ pub returns-then-not-is_in_height : goal.returns-then-not-is_in_height
 returns-then-not-is_in_height c =
     let a = c.args in
     let lo : leb (height (shape_of a.h.layout) a.s.now a.h.root.0) max_height ≡ false = sym (ap (λ (x : RowPageIndexNodeHeader). leb x.height max_height) c.header-head.ensures) ∙ sym c.is_in_height.ensures ∙ c.if-not-is_in_height.true in
-    let e = at_high (shape_of a.h.layout) a.h.layout.pool a.s.now a.h.root.0 a.start.0 a.end.0 a.ids.now c.requires.ids_nonzero.1 lo in
+    let e = at_high (shape_of a.h.layout) a.h.layout.pool a.s.now a.h.root.0 a.start.0 a.end.0 a.ids.now c.requires.root_value lo in
     record { answer = sym (ap (λ (o : Outcome). o.answer) e); words = sym (ap (λ (o : Outcome). o.words) e) }
 
 pub test_node-requires : goal.test_node-requires
@@ -31,7 +31,7 @@ returns-then-start-begin c =
     let lo : leb (height (shape_of a.h.layout) a.s.now a.h.root.0) max_height ≡ true = sym (ap (λ (x : RowPageIndexNodeHeader). leb x.height max_height) c.header-head.ensures) ∙ sym c.is_in_height.ensures ∙ c.if-not-is_in_height.false in
     let g = pass-sound (shape_of a.h.layout) a.h.layout.pool a.s.now a.h.root.0 (height (shape_of a.h.layout) a.s.now a.h.root.0) (start (shape_of a.h.layout) a.s.now a.h.root.0) Open _ (sym (c.test_node.ensures ∙ ap (λ (x : RowPageIndexNodeHeader). node_test (shape_of a.h.layout) a.h.layout.pool a.s.now a.h.root.0 x.height x.start_row_id.0 Open) c.header-head.ensures) ∙ c.in-Sound.is) in
     let b = ap (λ (x : RowPageIndexNodeHeader). x.start_row_id.0) c.header-head.ensures in
-    let e = at_other (shape_of a.h.layout) a.h.layout.pool a.s.now a.h.root.0 a.start.0 a.end.0 a.ids.now c.requires.ids_nonzero.1 lo g.0 (λ z. c.if-start-begin.true (z ∙ sym b)) in
+    let e = at_other (shape_of a.h.layout) a.h.layout.pool a.s.now a.h.root.0 a.start.0 a.end.0 a.ids.now c.requires.root_value lo g.0 (λ z. c.if-start-begin.true (z ∙ sym b)) in
     record { answer = ap (refused 8) b ∙ sym (ap (λ (o : Outcome). o.answer) e); words = sym (ap (λ (o : Outcome). o.words) e) }
 
 pub scan_tree-named-requires : goal.scan_tree-named-requires
@@ -39,20 +39,20 @@ scan_tree-named-requires c =
     let a = c.args in
     let lo : leb (height (shape_of a.h.layout) a.s.now a.h.root.0) max_height ≡ true = sym (ap (λ (x : RowPageIndexNodeHeader). leb x.height max_height) c.header-head.ensures) ∙ sym c.is_in_height.ensures ∙ c.if-not-is_in_height.false in
     let g = pass-sound (shape_of a.h.layout) a.h.layout.pool a.s.now a.h.root.0 (height (shape_of a.h.layout) a.s.now a.h.root.0) (start (shape_of a.h.layout) a.s.now a.h.root.0) Open _ (sym (c.test_node.ensures ∙ ap (λ (x : RowPageIndexNodeHeader). node_test (shape_of a.h.layout) a.h.layout.pool a.s.now a.h.root.0 x.height x.start_row_id.0 Open) c.header-head.ensures) ∙ c.in-Sound.is) in
-    (c.requires.in_open.header, ((c.requires.in_open.inside, leb-true _ _ lo, g.0), (g.1, c.requires.ids_nonzero.0)))
+    record { fits = c.requires.in_open.header; passed_root = (c.requires.in_open.inside, leb-true _ _ lo, g.0); first_value = g.1; ids_nonzero = c.requires.ids_nonzero }
 
 pub prune_named-requires : goal.prune_named-requires
 prune_named-requires c =
     let a = c.args in
     let lo : leb (height (shape_of a.h.layout) a.s.now a.h.root.0) max_height ≡ true = sym (ap (λ (x : RowPageIndexNodeHeader). leb x.height max_height) c.header-head.ensures) ∙ sym c.is_in_height.ensures ∙ c.if-not-is_in_height.false in
     let g = pass-sound (shape_of a.h.layout) a.h.layout.pool a.s.now a.h.root.0 (height (shape_of a.h.layout) a.s.now a.h.root.0) (start (shape_of a.h.layout) a.s.now a.h.root.0) Open _ (sym (c.test_node.ensures ∙ ap (λ (x : RowPageIndexNodeHeader). node_test (shape_of a.h.layout) a.h.layout.pool a.s.now a.h.root.0 x.height x.start_row_id.0 Open) c.header-head.ensures) ∙ c.in-Sound.is) in
-    record { rooted_in = at-root (shape_of a.h.layout) a.h.layout.pool a.s.now a.h.root.0 a.start.0 a.end.0 a.ids.now c.requires.ids_nonzero.1 lo g.0 a.h.free_count c.requires.in_open; ending = c.scan_tree-named.ensures.edge }
+    record { rooted_in = at-root (shape_of a.h.layout) a.h.layout.pool a.s.now a.h.root.0 a.start.0 a.end.0 a.ids.now c.requires.root_value lo g.0 a.h.free_count c.requires.in_open; ending = c.scan_tree-named.ensures.edge }
 
 pub returns-in-Unsound : goal.returns-in-Unsound
 returns-in-Unsound c =
     let a = c.args in
     let lo : leb (height (shape_of a.h.layout) a.s.now a.h.root.0) max_height ≡ true = sym (ap (λ (x : RowPageIndexNodeHeader). leb x.height max_height) c.header-head.ensures) ∙ sym c.is_in_height.ensures ∙ c.if-not-is_in_height.false in
-    let e = at-bad (shape_of a.h.layout) a.h.layout.pool a.s.now a.h.root.0 a.start.0 a.end.0 a.ids.now c.requires.ids_nonzero.1 lo (pass-unsound (shape_of a.h.layout) a.h.layout.pool a.s.now a.h.root.0 (height (shape_of a.h.layout) a.s.now a.h.root.0) (start (shape_of a.h.layout) a.s.now a.h.root.0) Open (sym (c.test_node.ensures ∙ ap (λ (x : RowPageIndexNodeHeader). node_test (shape_of a.h.layout) a.h.layout.pool a.s.now a.h.root.0 x.height x.start_row_id.0 Open) c.header-head.ensures) ∙ c.in-Unsound.is)) in
+    let e = at-bad (shape_of a.h.layout) a.h.layout.pool a.s.now a.h.root.0 a.start.0 a.end.0 a.ids.now c.requires.root_value lo (pass-unsound (shape_of a.h.layout) a.h.layout.pool a.s.now a.h.root.0 (height (shape_of a.h.layout) a.s.now a.h.root.0) (start (shape_of a.h.layout) a.s.now a.h.root.0) Open (sym (c.test_node.ensures ∙ ap (λ (x : RowPageIndexNodeHeader). node_test (shape_of a.h.layout) a.h.layout.pool a.s.now a.h.root.0 x.height x.start_row_id.0 Open) c.header-head.ensures) ∙ c.in-Unsound.is)) in
     record { answer = sym (ap (λ (o : Outcome). o.answer) e); words = sym (ap (λ (o : Outcome). o.words) e) }
 
 pub returns-else-start-begin : goal.returns-else-start-begin
@@ -61,5 +61,5 @@ returns-else-start-begin c =
     let lo : leb (height (shape_of a.h.layout) a.s.now a.h.root.0) max_height ≡ true = sym (ap (λ (x : RowPageIndexNodeHeader). leb x.height max_height) c.header-head.ensures) ∙ sym c.is_in_height.ensures ∙ c.if-not-is_in_height.false in
     let g = pass-sound (shape_of a.h.layout) a.h.layout.pool a.s.now a.h.root.0 (height (shape_of a.h.layout) a.s.now a.h.root.0) (start (shape_of a.h.layout) a.s.now a.h.root.0) Open _ (sym (c.test_node.ensures ∙ ap (λ (x : RowPageIndexNodeHeader). node_test (shape_of a.h.layout) a.h.layout.pool a.s.now a.h.root.0 x.height x.start_row_id.0 Open) c.header-head.ensures) ∙ c.in-Sound.is) in
     let b = ap (λ (x : RowPageIndexNodeHeader). x.start_row_id.0) c.header-head.ensures in
-    let e = at-start (shape_of a.h.layout) a.h.layout.pool a.s.now a.h.root.0 a.start.0 a.end.0 a.ids.now c.requires.ids_nonzero.1 lo g.0 (c.if-start-begin.false ∙ b) in
+    let e = at-start (shape_of a.h.layout) a.h.layout.pool a.s.now a.h.root.0 a.start.0 a.end.0 a.ids.now c.requires.root_value lo g.0 (c.if-start-begin.false ∙ b) in
     record { answer = c.prune_named.ensures.answer ∙ rw c.scan_tree-named.ensures.answer (sym (ap (λ (o : Outcome). o.answer) e)); words = c.prune_named.ensures.words ∙ rw c.scan_tree-named.ensures.answer (sym (ap (λ (o : Outcome). o.words) e)) }

@@ -10,7 +10,7 @@ pub is_empty_root-empty-requires : goal.is_empty_root-empty-requires
 is_empty_root-empty-requires c = record { fits = c.requires.in_open.header; n_lt_pool = c.requires.in_open.inside }
 
 pub prune_filled-requires : goal.prune_filled-requires
-prune_filled-requires c = (c.requires.in_open, (c.requires.ids_nonzero, sym c.is_empty_root-empty.ensures ∙ c.if-not-empty.true))
+prune_filled-requires c = record { in_open = c.requires.in_open; ids_nonzero = c.requires.ids_nonzero; root_value = sym c.is_empty_root-empty.ensures ∙ c.if-not-empty.true }
 
 pub header-top-requires : goal.header-top-requires
 header-top-requires c = record { fits = c.requires.in_open.header; n_lt_pool = c.requires.in_open.inside }

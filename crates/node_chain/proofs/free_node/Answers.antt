@@ -6,5 +6,5 @@ unfolding freed
 returns c =
     let d = c in
     let e = d in
-    let f = e.before.before.before.before in
-    rw (d.set_chain.ensures, e.put2.ensures, f.put.ensures)
+    let f = e in
+    rw (d.set_chain.ensures, e.put-2.ensures, f.put.ensures)

@@ -14,8 +14,8 @@ unfolding copy_from
 loop-j-preserved c =
     let p = c in
     let r = p in
-    let t = r.before.before in
-    (search rules, t.before.loop.invariant.1 ∙ turn (copy_from _ _ _ _ _) _ _ t.loop-test.true ∙ rw (p.put.ensures, r.part.ensures))
+    let t = r in
+    (search rules, t.loop-j.invariant.1 ∙ turn (copy_from _ _ _ _ _) _ _ t.loop-j-test.true ∙ rw (p.put.ensures, r.part-x.ensures))
 
 pub returns : goal.returns
 unfolding copied copy_from

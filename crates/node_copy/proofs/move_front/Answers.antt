@@ -14,11 +14,11 @@ unfolding moved
 loop-i-preserved c =
     let p = c in
     let x = p in
-    let r = x.before.before.before in
-    let t = r.before.before in (
+    let r = x in
+    let t = r in (
       search rules,
       search rules,
-      t.before.loop.invariant.2 ∙ turn (moved _ _ _ _ _) _ _ t.loop-test.true ∙ rw (p.put_pair.ensures, x.part.ensures, x.before.child-place.ensures, r.row.ensures),
+      t.loop-i.invariant.2 ∙ turn (moved _ _ _ _ _) _ _ t.loop-i-test.true ∙ rw (p.put_pair.ensures, x.part-x.ensures, x.child_place.ensures, r.row-row.ensures),
     )
 
 pub returns : goal.returns

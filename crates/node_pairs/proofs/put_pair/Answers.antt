@@ -4,4 +4,4 @@ pub returns : goal.returns
 returns c =
     let d = c in
     let e = d in
-    rw (d.put-2.ensures, d.child_place.ensures, e.put.ensures, e.before.row-place.ensures)
+    rw (d.put-2.ensures, d.child_place.ensures, e.put.ensures, e.row_place.ensures)

@@ -1,36 +1,37 @@
 use Prim.Native.Nat.{◌-◌, ◌<◌, ◌≤◌}
 use mathlib.Core.Path.{refl}
-use mathlib.Core.Logic.{⊎_elim, ◌⊎◌, inr}
+use mathlib.Core.Logic.{◌⊎◌, inr}
 use native.Mathlib.Omega.{arith}
 use Rattle.node_read.specs.Layout.{shape_of}
 use Rattle.model.specs.Words.{row}
 use Rattle.node_place.proofs.Places.{moved, kept, found, place-below}
 use Rattle.node_place.proofs.narrow.Goals as goal
+use Rattle.node_place.proofs.narrow.Goals.{then-row-q, else-row-q}
 
 pub loop-i-init : goal.loop-i-init
 loop-i-init c =
-    let p = c.requires.n_lt_pool.1 in (p.0.3, p.1.from, inr refl)
+    let p = c.requires in (p.le_step.3, p.lies_in.from, inr refl)
 
 pub loop-i-preserved : goal.loop-i-preserved
 loop-i-preserved c =
     let a = c.args in
-    let p = c.requires.n_lt_pool in
+    let p = c.requires in
     let at = c.loop-i in
     let r = c.row.ensures in
     let end = c.part_end-end.ensures in
     let b : at.i < a.count = omega (arith, end, c.loop-i-test.true) in
     let some : 1 ≤ a.count = omega arith in
-    ⊎_elim
-    (λ (t : _). rw t.1 (moved (shape_of a.l) a.s.now a.n.0 a.count some p.0.2 a.q.0 a.step at.place at.i at.invariant b (omega (arith, r, t.0.taken))))
-    (λ (t : _). rw t.1 (kept (shape_of a.l) a.s.now a.n.0 a.count some p.0.2 a.q.0 a.step at.place at.i at.invariant p.1.0.0 b (omega (arith, r, t.0.left))))
-    c.if-row-q.branch
+    elim c.if-row-q.branch [
+      then-row-q w ↦ rw w.place-is (moved (shape_of a.l) a.s.now a.n.0 a.count some p.n_lt_pool.2 a.q.0 a.step at.place at.i at.invariant b (omega (arith, r, w.if-row-q.true)))
+      | else-row-q w ↦ rw w.place-is (kept (shape_of a.l) a.s.now a.n.0 a.count some p.n_lt_pool.2 a.q.0 a.step at.place at.i at.invariant p.le_step.0 b (omega (arith, r, w.if-row-q.false)))
+    ]
 
 pub returns : goal.returns
 returns c =
     let a = c.args in
-    let p = c.requires.n_lt_pool in
+    let p = c.requires in
     let at = c.loop-i in
     let end = c.part_end-end.ensures in
     let some : 1 ≤ a.count = omega arith in
     let below = place-below (shape_of a.l) a.s.now a.n.0 a.q.0 a.count some in
-    found (shape_of a.l) a.s.now a.n.0 a.count some p.0.2 a.q.0 a.step at.place at.i at.invariant _ (omega (arith, below, end, p.1.1.before)) c.loop-i-test.false
+    found (shape_of a.l) a.s.now a.n.0 a.count some p.n_lt_pool.2 a.q.0 a.step at.place at.i at.invariant _ (omega (arith, below, end, p.lies_in.before)) c.loop-i-test.false

@@ -17,7 +17,7 @@ returns-then-last-k c =
 pub child-child-requires : goal.child-child-requires
 child-child-requires c =
     let p = c.requires in
-    record { fits = p.0; n_lt_pool = (p.1.0, omega (arith, ap (λ (h : RowPageIndexNodeHeader). h.count) c.header-h.ensures, p.1.1, p.1.2)) }
+    record { fits = p.fits; n_lt_pool = (p.asked.0, omega (arith, ap (λ (h : RowPageIndexNodeHeader). h.count) c.header-h.ensures, p.asked.1, p.asked.2)) }
 
 pub returns-then-l-child : goal.returns-then-l-child
 returns-then-l-child c =
@@ -28,7 +28,7 @@ returns-then-l-child c =
 pub row-row-requires : goal.row-row-requires
 row-row-requires c =
     let p = c.requires in
-    record { fits = p.0; n_lt_pool = (p.1.0, omega (arith, ap (λ (h : RowPageIndexNodeHeader). h.count) c.header-h.ensures, p.1.1, p.1.2)) }
+    record { fits = p.fits; n_lt_pool = (p.asked.0, omega (arith, ap (λ (h : RowPageIndexNodeHeader). h.count) c.header-h.ensures, p.asked.1, p.asked.2)) }
 
 pub is_sound-good-requires : goal.is_sound-good-requires
 is_sound-good-requires c = record { fits = c.requires.fits; n_lt_pool = c.if-l-child.false }

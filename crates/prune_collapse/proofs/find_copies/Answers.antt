@@ -7,13 +7,13 @@ use Rattle.prune_collapse.proofs.Copying.{first, own, ends, stops, spoils, goes}
 use Rattle.prune_collapse.proofs.find_copies.Goals as goal
 
 pub loop-h-init : goal.loop-h-init
-loop-h-init c = let p = c.requires in rw (ap (λ (h : RowPageIndexNodeHeader). h.height) c.header-head.ensures) (first _ _ _ _ _ p.1.0.1 p.1.1)
+loop-h-init c = let p = c.requires in rw (ap (λ (h : RowPageIndexNodeHeader). h.height) c.header-head.ensures) (first _ _ _ _ _ p.positions_len.1 p.sound_top)
 
 pub offset_bounds-edge-i : goal.offset_bounds-edge-i
 offset_bounds-edge-i c = let g = c.loop-h.invariant in omega (arith, g.high, g.low)
 
 pub bounds-edge-i : goal.bounds-edge-i
-bounds-edge-i c = let g = c.loop-h.invariant in omega (arith, g.high, g.low, c.requires.positions_len.0.0)
+bounds-edge-i c = let g = c.loop-h.invariant in omega (arith, g.high, g.low, c.requires.positions_len.0)
 
 pub copy_at-requires : goal.copy_at-requires
 copy_at-requires c = let g = c.loop-h.invariant in record { fits = c.requires.fits; asked = (g.inside, (own g).2, (own g).0, c.loop-h-test.true) }

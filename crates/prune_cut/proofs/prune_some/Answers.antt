@@ -5,7 +5,7 @@ use Rattle.prune_cut.proofs.Edges.{count-few, shaped, none_below, sound-top, som
 use Rattle.prune_cut.proofs.prune_some.Goals as goal
 
 pub find_copies-copied-requires : goal.find_copies-copied-requires
-find_copies-copied-requires c = let p = c.requires in (p.0.header, (((shaped p.0 p.1).2, none_below p.0 p.1), sound-top p.0 p.1))
+find_copies-copied-requires c = let p = c.requires in record { fits = p.0.header; positions_len = ((shaped p.0 p.1).2, none_below p.0 p.1); sound_top = sound-top p.0 p.1 }
 
 pub returns-in-Unsound : goal.returns-in-Unsound
 returns-in-Unsound c =

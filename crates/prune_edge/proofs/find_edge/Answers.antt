@@ -8,8 +8,8 @@ pub settle-edge-requires : goal.settle-edge-requires
 unfolding Climbs
 settle-edge-requires c =
     let p = c.requires in
-    let t = c.climb-top.ensures _ _ p.1.2 in
-    record { levels_bound = (ended-low p.1.2, t.climbed.long); by_index = λ i m. edge-ahead t.climbed i (omega arith) }
+    let t = c.climb-top.ensures _ _ p.given.2 in
+    record { levels_bound = (ended-low p.given.2, t.climbed.long); by_index = λ i m. edge-ahead t.climbed i (omega arith) }
 
 pub returns : goal.returns
 unfolding Climbs Finds

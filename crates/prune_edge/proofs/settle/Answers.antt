@@ -16,7 +16,7 @@ goes-index-requires c =
     let x = c.loop-i in
     let l = c.loop-i-test.true in
     let p = c.requires in
-    (omega (arith, l, p.0.0), λ m. (let q = p.1 x.i (omega (arith, m, x.invariant.settled.depth_is)) in omega (arith, q, ap (λ (y : Position). y.index) (x.invariant.rest x.i (omega arith)))))
+    (omega (arith, l, p.levels_bound.0), λ m. (let q = p.by_index x.i (omega (arith, m, x.invariant.settled.depth_is)) in omega (arith, q, ap (λ (y : Position). y.index) (x.invariant.rest x.i (omega arith)))))
 
 pub bounds-edge-i-in-loop-i : goal.bounds-edge-i-in-loop-i
 bounds-edge-i-in-loop-i c = omega (arith, c.loop-i.invariant.settled.long, c.requires.levels_bound.0, c.loop-i-test.true)

@@ -38,7 +38,7 @@ returns-then-end-next c =
     told (shape_of a.l) a.s.now a.end.0 a.n.0 a.ids.now a.place a.reached.0 _ (leaf-height c.header-h.ensures c.is_leaf.ensures c.if-not-is_leaf.false) ((ap (λ (h : RowPageIndexNodeHeader). h.count) c.header-h.ensures)) (sym (c.loop-i.invariant.1 ∙ turn_end (shape_of a.l) a.s.now a.end.0 a.ids.now a.n.0 c.loop-i.i _ c.loop-i.at c.loop-i.to.0 c.loop-i-test.true c.if-ids-at.false (sym c.page-page.ensures ∙ c.if-page-ids.false) (rw c.entry_end-next.ensures at c.if-end-next.true)))
 
 pub overflow_add-at : goal.overflow_add-at
-overflow_add-at c = omega (arith, c.if-ids-at.false, c.well-formed.0, c.well-formed.1)
+overflow_add-at c = omega (arith, c.if-ids-at.false)
 
 pub loop-i-preserved : goal.loop-i-preserved
 loop-i-preserved c =

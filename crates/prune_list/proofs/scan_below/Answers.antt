@@ -18,8 +18,8 @@ add-left-requires c = omega arith
 pub loop-place-init : goal.loop-place-init
 loop-place-init c =
     let a = c.args in
-    let p = c.requires.valid in
-    rw (c.rooted-path.ensures, p.1.0.1) (start_scanning (shape_of a.l) a.l.pool a.s.now a.end.0 a.ids.now a.node.0 a.first a.place a.reached.0 a.used p.0 p.1.0.0 p.1.1.0 p.1.1.1)
+    let p = c.requires in
+    rw (c.rooted-path.ensures, p.first_value.1) (start_scanning (shape_of a.l) a.l.pool a.s.now a.end.0 a.ids.now a.node.0 a.first a.place a.reached.0 a.used p.valid p.first_value.0 p.begun.0 p.begun.1)
 
 pub returns-then-depth-eq0 : goal.returns-then-depth-eq0
 unfolding Ending

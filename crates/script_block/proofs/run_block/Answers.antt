@@ -22,7 +22,7 @@ returns-then-len-eq0 c =
     let v = c.loop-out in
     let bytes = c.args.bytes.now in
     let e = rw (part_to_end bytes v.taken) at c.known_length-len.ensures in
-    (v.invariant.5, ((v.invariant.2, v.invariant.3, v.invariant.4), unknown (drop v.taken bytes) _ (omega (arith, e, c.if-len-eq0.true))))
+    record { is = v.invariant.5; bounds = (v.invariant.2, v.invariant.3, v.invariant.4); rests = unknown (drop v.taken bytes) _ (omega (arith, e, c.if-len-eq0.true)) }
 
 pub returns-then-not-t : goal.returns-then-not-t
 returns-then-not-t c =
@@ -39,7 +39,7 @@ returns-then-not-t c =
     let u = used-fits v.s v.words (first bs) v.invariant.2 in
     let l : length c.step-t.new.0 ≡ length v.s = search rules in
     let o = placed v.s v.words bs h few small room d in
-    (λ more. v.invariant.5 more ∙ stopped v.s v.words bs h few small room d c.if-not-t.true more, ((omega (arith, d.used, u, l), v.invariant.3, o), refl))
+    record { is = λ more. v.invariant.5 more ∙ stopped v.s v.words bs h few small room d c.if-not-t.true more; bounds = (omega (arith, d.used, u, l), v.invariant.3, o); rests = refl }
 
 pub overflow_add-taken : goal.overflow_add-taken
 overflow_add-taken c =
@@ -97,4 +97,4 @@ loop-out-preserved c =
 pub returns : goal.returns
 returns c =
     let v = c.loop-out in
-    (v.invariant.5, ((v.invariant.2, v.invariant.3, v.invariant.4), full (is_known (drop v.taken c.args.bytes.now)) v.at (length v.out) (omega (arith, v.invariant.4, c.loop-out-test.false))))
+    record { is = v.invariant.5; bounds = (v.invariant.2, v.invariant.3, v.invariant.4); rests = full (is_known (drop v.taken c.args.bytes.now)) v.at (length v.out) (omega (arith, v.invariant.4, c.loop-out-test.false)) }

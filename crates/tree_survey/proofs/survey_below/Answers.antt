@@ -13,7 +13,7 @@ use Rattle.tree_survey.proofs.survey_below.Goals as goal
 
 pub loop-path-init : goal.loop-path-init
 unfolding limits limit
-loop-path-init c = let a = c.args in rw c.rooted-path.ensures (start-both (shape_of a.l) a.l.pool a.s.now a.node.0 a.first _ _ c.requires.valid.0 c.requires.valid.1, refl, refl)
+loop-path-init c = let a = c.args in rw c.rooted-path.ensures (start-both (shape_of a.l) a.l.pool a.s.now a.node.0 a.first _ _ c.requires.valid c.requires.first_value, refl, refl)
 
 pub is_done-requires : goal.is_done-requires
 is_done-requires c = record { fits = c.requires.fits; node_lt_pool = (placed c.loop-path.invariant.0.held c.loop-path-test.true).inside }

@@ -11,19 +11,19 @@ pub returns-then-first-index : goal.returns-then-first-index
 returns-then-first-index c = let p = c.requires.placed in sym (turns-far p.0 p.1 _ c.if-first-index.true)
 
 pub row-row-requires : goal.row-row-requires
-row-row-requires c = let p = c.requires in record { fits = p.0; n_lt_pool = (p.1.0.inside, omega (arith, p.1.0.narrow, (branch _ _ _ _ p.1.1).1)) }
+row-row-requires c = let p = c.requires in record { fits = p.fits; n_lt_pool = (p.placed.0.inside, omega (arith, p.placed.0.narrow, (branch _ _ _ _ p.placed.1).1)) }
 
 pub child-child-requires : goal.child-child-requires
-child-child-requires c = let p = c.requires in record { fits = p.0; n_lt_pool = (p.1.0.inside, omega (arith, p.1.0.narrow, (branch _ _ _ _ p.1.1).1)) }
+child-child-requires c = let p = c.requires in record { fits = p.fits; n_lt_pool = (p.placed.0.inside, omega (arith, p.placed.0.narrow, (branch _ _ _ _ p.placed.1).1)) }
 
 pub next_row-beyond-requires : goal.next_row-beyond-requires
-next_row-beyond-requires c = let p = c.requires in record { fits = p.0; n_lt_pool = (p.1.0.inside, (branch _ _ _ _ p.1.1).1, p.1.0.narrow) }
+next_row-beyond-requires c = let p = c.requires in record { fits = p.fits; n_lt_pool = (p.placed.0.inside, (branch _ _ _ _ p.placed.1).1, p.placed.0.narrow) }
 
 pub overflow_sub-h : goal.overflow_sub-h
 overflow_sub-h c = omega (arith, ap (λ (h : RowPageIndexNodeHeader). h.height) c.header-h.ensures, (branch _ _ _ _ c.requires.placed.1).0)
 
 pub test_node-requires : goal.test_node-requires
-test_node-requires c = let p = c.requires in record { fits = p.0; n_lt_pool = rw c.child-child.ensures (ranged p.1.0 p.1.1 c.if-first-index.false) }
+test_node-requires c = let p = c.requires in record { fits = p.fits; n_lt_pool = rw c.child-child.ensures (ranged p.placed.0 p.placed.1 c.if-first-index.false) }
 
 pub returns-in-Sound : goal.returns-in-Sound
 returns-in-Sound c =

@@ -15,7 +15,7 @@ child-requires c =
     let a = c.args in
     let p = c.requires in
     let e = not-false _ (sym c.is_done.ensures ∙ c.if-is_done.false) in
-    record { fits = p.0; n_lt_pool = (p.1.0, omega (arith, (branch (shape_of a.l) a.s.now a.at.node.0 a.at.index e).1, p.1.1)) }
+    record { fits = p.fits; n_lt_pool = (p.node_lt_pool.0, omega (arith, (branch (shape_of a.l) a.s.now a.at.node.0 a.at.index e).1, p.node_lt_pool.1)) }
 
 pub returns : goal.returns
 unfolding stepping
