@@ -1,12 +1,10 @@
 -- A name that was put, by its kind.
 use Prim.Native.Nat.{ℕ, ◌+◌, ◌^◌, ◌≤◌, ◌<◌}
-use mathlib.Core.Path.{◌≡◌, refl}
-use mathlib.Core.List.{List, [], ◌∷◌}
+use mathlib.Core.Path.{◌≡◌}
+use mathlib.Core.List.{List}
 use native.Mathlib.Omega.{arith}
 use borrow.Author.Tests.{ne_eqb}
 use lib.ListN.{length}
-use lib.Dec.{eqb}
-use Rattle.model.specs.Words.{pick}
 use Rattle.script_text.specs.Lines.{Puts}
 use Rattle.script_text.proofs.Putting.{nothing}
 use Rattle.script_input.specs.Names.{name_of}
