@@ -28,4 +28,4 @@ unfolding name_of
 returns-in-6 c = named 6 c.in-6.is (omega arith) c.put_bytes-in-6.ensures
 
 pub returns-in_default : goal.returns-in_default
-returns-in_default c = let n = c.in_default.rest in unnamed n.0.0.0.0.0.1 n.0.0.0.0.1 n.0.0.0.1 n.0.0.1 n.0.1 n.1 (omega arith)
+returns-in_default c = unnamed (omega arith) (omega arith) (omega arith) (omega arith) (omega arith) (omega arith) (omega arith)
