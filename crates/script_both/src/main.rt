@@ -9,9 +9,9 @@ pub mod single;
 
 ghost use Rattle.std.specs.Prelude.{◌+◌, ◌≤◌, length};
 
-use libc::STDOUT_FILENO;
-
 const STDIN_FILENO: i32 = 0;
+
+const STDOUT_FILENO: i32 = 1;
 
 // What the bytes hold before a call; no listing has this byte.
 const MARK: u8 = 255;

@@ -3,9 +3,12 @@
 
 #![tactic(auto)]
 
-use libc::{STDERR_FILENO, STDOUT_FILENO};
 use script_input::name;
 use script_records::{Head, Record};
+
+const STDOUT_FILENO: i32 = 1;
+
+const STDERR_FILENO: i32 = 2;
 
 // The line of a good record, whatever its kind: a name, and all words of the body. The longest, of a prune with 511 words of
 // 20 digits, has 10,737 bytes.

@@ -6,7 +6,7 @@
 
 ghost use Rattle.std.specs.Prelude.{◌≤◌};
 
-use libc::{STDERR_FILENO, STDOUT_FILENO};
+use store_print::{STDERR_FILENO, STDOUT_FILENO};
 use store_text::line::{Input, Word};
 use store_text::number::Numbers;
 use store_text::{line, number};
@@ -150,13 +150,14 @@ fn take_line(at: u64, b: &[u8], len: usize) -> bool {
 }
 
 // A proved loop has to end, and nothing says that the input does: the lines are counted up to a number that no run reaches.
-fn main() {
+fn main(rt: HostRuntime) {
+    let mut reader = rt.stdin();
     let mut block = io::buffer();
     let mut b = io::large_buffer();
     let mut input = Input { at: 0, end: 0 };
     let mut at: u64 = 1;
     while at < u64::MAX {
-        let l = line::read_line(&mut block, input, &mut b);
+        let l = line::read_line(&mut reader, &mut block, input, &mut b);
         if !l.is_there {
             return;
         }

@@ -5,11 +5,12 @@
 
 ghost use Rattle.std.specs.Prelude.{◌≡◌, ◌≤◌, length};
 
-use libc::{STDIN_FILENO, STDOUT_FILENO};
 use script_block;
 use script_block::Block;
 use script_io;
 use script_turn;
+use std::io::{Read, Write};
+use std::time::Clock;
 
 // Where the bytes that were read end, and whether they are the last.
 #[derive(Clone, Copy)]
@@ -28,13 +29,20 @@ struct State {
 }
 
 // The records that are known in these bytes, their lines written. A write that fails ends the script.
-fn run_known(words: &mut [u64], used: usize, bytes: &[u8], out: &mut [u8]) -> Block
+fn run_known(
+    clock: &impl Clock,
+    output: &mut impl Write,
+    words: &mut [u64],
+    used: usize,
+    bytes: &[u8],
+    out: &mut [u8],
+) -> Block
     requires { (length words.old ≤ 4096) × (used ≤ length words.old) }
     ensures { (result.used ≤ length words.new) × (result.taken ≤ length bytes.now) }
 {
     let b = script_block::run_block(words, used, bytes, out);
     let at = b.at;
-    let written = script_io::write_whole(STDOUT_FILENO, &out[0..at]);
+    let written = script_io::write_whole(clock, output, &out[0..at]);
     if !written {
         return Block {
             used: b.used,
@@ -47,12 +55,18 @@ fn run_known(words: &mut [u64], used: usize, bytes: &[u8], out: &mut [u8]) -> Bl
 }
 
 // More bytes after those that are left. An input that fails is one that is cut in its next record.
-fn read_more(bytes: &mut [u8], at: usize, end: usize) -> Input
+fn read_more(
+    clock: &impl Clock,
+    input: &mut impl Read,
+    bytes: &mut [u8],
+    at: usize,
+    end: usize,
+) -> Input
     requires { (at ≤ end) × (end ≤ length bytes.old) × (1 ≤ length bytes.old) }
     ensures { result.end ≤ length bytes.new }
 {
     let left = script_block::move_front(bytes, at, end);
-    let got = script_io::read_some(STDIN_FILENO, &mut bytes[left..]);
+    let got = script_io::read_some(clock, input, &mut bytes[left..]);
     if 0 < got.count {
         return Input {
             end: left + got.count,
@@ -72,24 +86,39 @@ fn read_more(bytes: &mut [u8], at: usize, end: usize) -> Input
 }
 
 // The last line: `free`, or `bad record` where bytes of a record are left.
-fn finish(words: &mut [u64], used: usize, bytes: &[u8], out: &mut [u8])
+fn finish(
+    clock: &impl Clock,
+    output: &mut impl Write,
+    words: &mut [u64],
+    used: usize,
+    bytes: &[u8],
+    out: &mut [u8],
+)
     requires in_bounds { (5 ≤ length words.old) × (length words.old ≤ 4096) × (used ≤ length words.old) }
     requires in_bounds_2 { 65536 ≤ length out.old }
 {
     let t = script_turn::turn_step(words, used, bytes, out);
     let len = t.at;
-    script_io::write_whole(STDOUT_FILENO, &out[0..len]);
+    script_io::write_whole(clock, output, &out[0..len]);
 }
 
 // The known records of the bytes that were read; where there is none, more bytes.
-fn turn(words: &mut [u64], state: State, bytes: &mut [u8], out: &mut [u8]) -> State
+fn turn(
+    clock: &impl Clock,
+    input: &mut impl Read,
+    output: &mut impl Write,
+    words: &mut [u64],
+    state: State,
+    bytes: &mut [u8],
+    out: &mut [u8],
+) -> State
     requires in_bounds { (5 ≤ length words.old) × (length words.old ≤ 4096) × (state.used ≤ length words.old) }
     requires at_le_end { (state.at ≤ state.end) × (state.end ≤ length bytes.old) × (1 ≤ length bytes.old) × (65536 ≤ length out.old) }
     ensures { (result.used ≤ length words.new) × (result.at ≤ result.end) × (result.end ≤ length bytes.new) }
 {
     let at = state.at;
     let end = state.end;
-    let b = run_known(words, state.used, &bytes[at..end], out);
+    let b = run_known(clock, output, words, state.used, &bytes[at..end], out);
     let used = b.used;
     if !b.goes {
         return State {
@@ -107,10 +136,10 @@ fn turn(words: &mut [u64], state: State, bytes: &mut [u8], out: &mut [u8]) -> St
             goes: true,
         };
     }
-    let input = read_more(bytes, at, end);
-    let last = input.end;
-    if input.is_last {
-        finish(words, used, &bytes[0..last], out);
+    let more = read_more(clock, input, bytes, at, end);
+    let last = more.end;
+    if more.is_last {
+        finish(clock, output, words, used, &bytes[0..last], out);
         return State {
             used,
             at: 0,
@@ -128,7 +157,14 @@ fn turn(words: &mut [u64], state: State, bytes: &mut [u8], out: &mut [u8]) -> St
 
 // A proved loop has to end, and nothing says that the input does: the turns are counted down from a number that no run
 // uses up.
-fn run(words: &mut [u64], bytes: &mut [u8], out: &mut [u8])
+fn run(
+    clock: &impl Clock,
+    input: &mut impl Read,
+    output: &mut impl Write,
+    words: &mut [u64],
+    bytes: &mut [u8],
+    out: &mut [u8],
+)
     requires in_bounds { (5 ≤ length words.old) × (length words.old ≤ 4096) }
     requires in_bounds_2 { (1 ≤ length bytes.old) × (65536 ≤ length out.old) }
 {
@@ -140,7 +176,7 @@ fn run(words: &mut [u64], bytes: &mut [u8], out: &mut [u8])
     };
     let mut turns = u64::MAX;
     while 0 < turns {
-        state = turn(words, state, bytes, out);
+        state = turn(clock, input, output, words, state, bytes, out);
         if !state.goes {
             return;
         }
@@ -148,9 +184,16 @@ fn run(words: &mut [u64], bytes: &mut [u8], out: &mut [u8])
     }
 }
 
-fn main() {
+fn main(rt: HostRuntime) {
     let mut words = [0u64; 4096];
     let mut bytes = io::large_buffer();
     let mut out = [0u8; 131072];
-    run(&mut words, &mut bytes, &mut out);
+    run(
+        &rt,
+        &mut rt.stdin(),
+        &mut rt.stdout(),
+        &mut words,
+        &mut bytes,
+        &mut out,
+    );
 }

@@ -12,6 +12,7 @@ pub mod walk;
 ghost use Rattle.std.specs.Prelude.{◌≤◌};
 
 use model::cursor::RowPageIndexMemCursor;
+use std::io::Read;
 use step::Settings;
 use store_print::wrong;
 use store_text::line::{Input, Word};
@@ -118,7 +119,7 @@ fn take_line(b: &[u8], len: usize, all: &mut [u64], t: Settings, lines: u64) -> 
 }
 
 // A proved loop has to end, and nothing says that the input does: the lines are counted up to a number that no run reaches.
-fn run(all: &mut [u64], block: &mut [u8], b: &mut [u8]) {
+fn run(reader: &mut impl Read, all: &mut [u64], block: &mut [u8], b: &mut [u8]) {
     let mut settings = Settings {
         words: 0,
         is_fixed: false,
@@ -128,7 +129,7 @@ fn run(all: &mut [u64], block: &mut [u8], b: &mut [u8]) {
     let mut input = Input { at: 0, end: 0 };
     let mut lines: u64 = 1;
     while lines < u64::MAX {
-        let l = line::read_line(block, input, b);
+        let l = line::read_line(reader, block, input, b);
         if !l.is_there {
             return;
         }
@@ -138,9 +139,9 @@ fn run(all: &mut [u64], block: &mut [u8], b: &mut [u8]) {
     }
 }
 
-fn main() {
+fn main(rt: HostRuntime) {
     let mut all = [0u64; 65536];
     let mut block = io::large_buffer();
     let mut b = io::large_buffer();
-    run(&mut all, &mut block, &mut b);
+    run(&mut rt.stdin(), &mut all, &mut block, &mut b);
 }

@@ -10,7 +10,6 @@ pub mod words;
 ghost use Rattle.std.specs.Prelude.{◌≤◌, ◌<◌};
 
 use call_check;
-use libc::STDOUT_FILENO;
 use model::answer::{Checked, Refusal};
 use model::id::NodeNo;
 use model::node::RowPageIndexNodeHeader;
@@ -38,7 +37,7 @@ fn tell_indent(level: usize) {
     let spaces = [b' '; 62];
     if level < 32 {
         let to = 2 * level;
-        io::write_all(STDOUT_FILENO, &spaces[0..to]);
+        io::write_all(store_print::STDOUT_FILENO, &spaces[0..to]);
     }
 }
 

@@ -7,9 +7,12 @@ pub mod wrong;
 
 use answer_numbers;
 use answer_numbers::Numbers;
-use libc::STDOUT_FILENO;
 use model::answer::{Checked, Refusal};
 use model::node::RowPageIndexNodeHeader;
+
+pub const STDOUT_FILENO: i32 = 1;
+
+pub const STDERR_FILENO: i32 = 2;
 
 // A byte of a text: a `%` stands for the number, a `&` for the number as a row.
 fn put_part(out: &mut [u8], at: usize, x: u8, n: u64) -> usize {

@@ -1,6 +1,6 @@
 // The message for a wrong line: its number, what is wrong, and the word that is meant.
 
-use libc::STDOUT_FILENO;
+use crate::STDOUT_FILENO;
 use store_text::line;
 use store_text::line::Word;
 

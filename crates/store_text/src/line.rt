@@ -1,8 +1,8 @@
-// Lines of standard input, and their words.
+// Lines of a reader, as standard input, and their words.
 
 ghost use Rattle.std.specs.Prelude.{◌≤◌};
 
-use libc::STDIN_FILENO;
+use std::io::Read;
 
 // What is left of the block that was read last.
 #[derive(Clone, Copy)]
@@ -33,15 +33,14 @@ pub fn byte_at(b: &[u8], i: usize) -> u8 {
     b'\n'
 }
 
-// The input with bytes in its block, or at the end of the input.
-fn with_bytes(block: &mut [u8], input: Input) -> Input {
+// The input with bytes in its block, or at the end of the input, as a read that fails counts too.
+fn with_bytes(reader: &mut impl Read, block: &mut [u8], input: Input) -> Input {
     if input.at < input.end {
         return input;
     }
-    let got = libc::read(STDIN_FILENO, block);
     Input {
         at: 0,
-        end: io::count(got, block),
+        end: reader.read(block).unwrap_or(0),
     }
 }
 
@@ -55,12 +54,12 @@ fn last_line(len: usize) -> Line {
 }
 
 // The next line, without its end.
-pub fn read_line(block: &mut [u8], input: Input, b: &mut [u8]) -> Line {
+pub fn read_line(reader: &mut impl Read, block: &mut [u8], input: Input, b: &mut [u8]) -> Line {
     let mut at = input.at;
     let mut end = input.end;
     let mut len: usize = 0;
     while len < usize::MAX {
-        let more = with_bytes(block, Input { at, end });
+        let more = with_bytes(reader, block, Input { at, end });
         at = more.at;
         end = more.end;
         if end <= at {

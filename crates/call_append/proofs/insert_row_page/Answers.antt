@@ -6,7 +6,9 @@ use Rattle.call_append.proofs.FromHeader.{insert_refused, insert_unsound, insert
 use Rattle.call_append.proofs.insert_row_page.Goals as goal
 
 pub right_edge-edge-requires : goal.right_edge-edge-requires
-right_edge-edge-requires c = open_fits c.args.s.now _ (sym c.«open».ensures ∙ c.in-Open.is)
+right_edge-edge-requires c =
+    let both = open_fits c.args.s.now _ (sym c.«open».ensures ∙ c.in-Open.is) in
+    record { fits = both.0; root_lt_pool = both.1 }
 
 pub insert_after-requires : goal.insert_after-requires
 insert_after-requires c =

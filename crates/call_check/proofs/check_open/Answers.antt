@@ -8,7 +8,9 @@ pub follow_chain-chain-requires : goal.follow_chain-chain-requires
 follow_chain-chain-requires c = (opens-fits _ _ (is_open _ _ c.requires)).0
 
 pub survey_both-surveys-requires : goal.survey_both-surveys-requires
-survey_both-surveys-requires c = opens-fits _ _ (is_open _ _ c.requires)
+survey_both-surveys-requires c =
+    let both = opens-fits _ _ (is_open _ _ c.requires) in
+    record { fits = both.0; root_lt_pool = both.1 }
 
 pub check_counts-requires : goal.check_counts-requires
 check_counts-requires c = let o = is_open _ _ c.requires in rw o.header_is o.free_in

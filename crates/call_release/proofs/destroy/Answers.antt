@@ -5,7 +5,9 @@ use Rattle.call_release.proofs.Deciding.{not_open, bad-node}
 use Rattle.call_release.proofs.destroy.Goals as goal
 
 pub survey_tree-requires : goal.survey_tree-requires
-survey_tree-requires c = opens-fits _ _ (is_open _ _ (sym c.«open».ensures ∙ c.in-Open.is))
+survey_tree-requires c =
+    let both = opens-fits _ _ (is_open _ _ (sym c.«open».ensures ∙ c.in-Open.is)) in
+    record { fits = both.0; root_lt_pool = both.1 }
 
 pub destroy_sound-requires : goal.destroy_sound-requires
 destroy_sound-requires c = record { s_value = (sym c.«open».ensures ∙ c.in-Open.is); no_counts_value = sym c.survey_tree.ensures ∙ c.in-Counted.is }

@@ -9,7 +9,9 @@ use Rattle.call_release.proofs.Deciding.{few-nodes, releasable, counts, too_low,
 use Rattle.call_release.proofs.destroy_sound.Goals as goal
 
 pub starts_below-low-requires : goal.starts_below-low-requires
-starts_below-low-requires c = opens-fits _ _ (is_open _ _ c.requires.s_value)
+starts_below-low-requires c =
+    let both = opens-fits _ _ (is_open _ _ c.requires.s_value) in
+    record { fits = both.0; root_lt_pool = both.1 }
 
 pub header-top-requires : goal.header-top-requires
 header-top-requires c = let q = opens-fits _ _ (is_open _ _ c.requires.s_value) in record { fits = q.0; n_lt_pool = q.1 }

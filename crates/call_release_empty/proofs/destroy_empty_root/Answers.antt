@@ -13,7 +13,9 @@ use Rattle.call_release_empty.proofs.Emptying.{empty_unsound, empty_not, empty_f
 use Rattle.call_release_empty.proofs.destroy_empty_root.Goals as goal
 
 pub is_sound_root-good-requires : goal.is_sound_root-good-requires
-is_sound_root-good-requires c = opens-fits _ _ (is_open _ _ c.requires)
+is_sound_root-good-requires c =
+    let both = opens-fits _ _ (is_open _ _ c.requires) in
+    record { fits = both.0; n_lt_pool = both.1 }
 
 pub returns-then-not-good : goal.returns-then-not-good
 returns-then-not-good c =
@@ -21,7 +23,9 @@ returns-then-not-good c =
     record { answer = sym (ap (λ (x : Outcome). x.answer) e); words = sym (ap (λ (x : Outcome). x.words) e) }
 
 pub is_empty_root-empty-requires : goal.is_empty_root-empty-requires
-is_empty_root-empty-requires c = opens-fits _ _ (is_open _ _ c.requires)
+is_empty_root-empty-requires c =
+    let both = opens-fits _ _ (is_open _ _ c.requires) in
+    record { fits = both.0; n_lt_pool = both.1 }
 
 pub returns-then-not-empty : goal.returns-then-not-empty
 returns-then-not-empty c =

@@ -13,7 +13,9 @@ returns-then-count-eq0 c =
     let a = c.args in no_pairs a.out.now a.s.now a.e c.if-count-eq0.true
 
 pub entries-pairs-requires : goal.entries-pairs-requires
-entries-pairs-requires c = c.requires.0 (omega (arith, c.if-count-eq0.false))
+entries-pairs-requires c =
+    let both = c.requires.0 (omega (arith, c.if-count-eq0.false)) in
+    record { fits = both.0; n_lt_pool = both.1 }
 
 pub copy_front-requires : goal.copy_front-requires
 copy_front-requires c =

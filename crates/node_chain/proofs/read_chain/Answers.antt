@@ -21,11 +21,13 @@ loop-i-init c = (omega arith, refl, rw sub-zero, rw sub-zero, rw sub-zero)
 
 pub returns-then-not-link : goal.returns-then-not-link
 returns-then-not-link c =
-    broken _ _ _ _ _ _ _ c.loop-i-test.true c.loop-i.invariant.2 (λ p. false≢true (sym (sym c.is_link-link.ensures ∙ c.if-not-link.true) ∙ link-is _ _ _ _ _ p))
+    let b = broken _ _ _ _ _ _ _ c.loop-i-test.true c.loop-i.invariant.2 (λ p. false≢true (sym (sym c.is_link-link.ensures ∙ c.if-not-link.true) ∙ link-is _ _ _ _ _ p)) in
+    record { ok = b.0; given = b.1 }
 
 pub returns-then-seen : goal.returns-then-seen
 returns-then-seen c =
-    broken _ _ _ _ _ _ _ c.loop-i-test.true c.loop-i.invariant.2 (λ p. false≢true (rw c.if-seen.true at c.holds-seen.ensures ∙ p.new))
+    let b = broken _ _ _ _ _ _ _ c.loop-i-test.true c.loop-i.invariant.2 (λ p. false≢true (rw c.if-seen.true at c.holds-seen.ensures ∙ p.new)) in
+    record { ok = b.0; given = b.1 }
 
 pub header-link-requires : goal.header-link-requires
 unfolding occ
@@ -55,7 +57,7 @@ pub returns : goal.returns
 unfolding chain_sound past
 returns c =
     let l = c.loop-i in
-    let all : l.i ≡ c.args.k = omega arith in (
-      sym (l.invariant.2 ∙ stop (chain_sound _ _ _ _ _) _ _ c.loop-i-test.false),
-      λ z. (ap (listed l.nodes 0) (sym all) ∙ sym (l.invariant.3 ∙ firsts-done _ _ _ _ _ (listed l.nodes 0 l.i) c.loop-i-test.false), sym (l.invariant.4 ∙ stop (past _ _ _) _ _ c.loop-i-test.false)),
-    )
+    let all : l.i ≡ c.args.k = omega arith in record {
+      ok = sym (l.invariant.2 ∙ stop (chain_sound _ _ _ _ _) _ _ c.loop-i-test.false);
+      given = λ z. (ap (listed l.nodes 0) (sym all) ∙ sym (l.invariant.3 ∙ firsts-done _ _ _ _ _ (listed l.nodes 0 l.i) c.loop-i-test.false), sym (l.invariant.4 ∙ stop (past _ _ _) _ _ c.loop-i-test.false));
+    }

@@ -4,7 +4,7 @@ use lib.ListN.{length}
 use Rattle.script_run.proofs.run.Given as goal
 
 abbrev pub invariant-loop-turns : goal.invariant-loop-turns
-invariant-loop-turns l = (length l.words ≡ length l.initial.words) × (length l.bytes ≡ length l.initial.bytes) × (length l.out ≡ length l.initial.out) × (l.state.used ≤ length l.words) × (l.state.at ≤ l.state.end) × (l.state.end ≤ length l.bytes)
+invariant-loop-turns g l = (length l.words ≡ length l.initial.words) × (length l.bytes ≡ length l.initial.bytes) × (length l.out ≡ length l.initial.out) × (l.state.used ≤ length l.words) × (l.state.at ≤ l.state.end) × (l.state.end ≤ length l.bytes)
 
 abbrev pub decreases-loop-turns : goal.decreases-loop-turns
-decreases-loop-turns l = l.turns
+decreases-loop-turns g l = l.turns

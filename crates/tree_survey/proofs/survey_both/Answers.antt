@@ -66,7 +66,4 @@ returns-in-Sound c =
     let e = sym c.is_empty_root-empty.ensures ∙ c.if-empty.false in
     let hi : leb (height (shape_of a.l) a.s.now a.root.0) max_height ≡ true = sym (ap (λ (h : RowPageIndexNodeHeader). leb h.height max_height) c.header-h.ensures) ∙ sym c.is_in_height.ensures ∙ c.if-not-is_in_height.false in
     let s = pass-sound (shape_of a.l) a.l.pool a.s.now a.root.0 (height (shape_of a.l) a.s.now a.root.0) (start (shape_of a.l) a.s.now a.root.0) Open _ (sym (c.test_node.ensures ∙ ap (λ (h : RowPageIndexNodeHeader). node_test (shape_of a.l) a.l.pool a.s.now a.root.0 h.height h.start_row_id.0 Open) c.header-h.ensures) ∙ c.in-Sound.is) in
-    let i = c.requires.root_lt_pool in (
-      c.survey_below.ensures.nodes ∙ rw c.count_node-counts-in-Sound.ensures (sym (from-good false (shape_of a.l) a.l.pool a.s.now a.root.0 no_counts e hi i s.0)),
-      c.survey_below.ensures.ends ∙ rw (c.look_at_end-wrong.ensures, c.count_node-counts-in-Sound.ensures) (sym (from-both (shape_of a.l) a.l.pool a.s.now a.root.0 no_counts e hi i s.0)),
-    )
+    let i = c.requires.root_lt_pool in record { nodes = c.survey_below.ensures.nodes ∙ rw c.count_node-counts-in-Sound.ensures (sym (from-good false (shape_of a.l) a.l.pool a.s.now a.root.0 no_counts e hi i s.0)); ends = c.survey_below.ensures.ends ∙ rw (c.look_at_end-wrong.ensures, c.count_node-counts-in-Sound.ensures) (sym (from-both (shape_of a.l) a.l.pool a.s.now a.root.0 no_counts e hi i s.0)) }
