@@ -51,4 +51,4 @@ returns-else-cursor c =
     let o = is_open w h (sym c.«open».ensures ∙ c.in-Open.is) in
     let e = ap (λ (x : StoreHeader). x.layout.capacity) o.header_is in
     let room : h.layout.capacity ≤ a.len = c.if-len-capacity.false in
-    tree-steps w a.cursor h o a.len _ (omega (arith, e)) c.if-cursor.false c.step_in_tree.ensures
+    tree-steps w a.cursor h o a.len _ (omega (arith, e)) c.if-cursor.false (c.step_in_tree.ensures.is, (c.step_in_tree.ensures.lies, c.step_in_tree.ensures.few))
