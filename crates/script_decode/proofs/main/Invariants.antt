@@ -1,4 +1,4 @@
-use Prim.Native.Nat.{◌-◌, ◌^◌, ◌≤◌}
+use Prim.Native.Nat.{◌-◌, ◌^◌}
 use Rattle.script_decode.proofs.main.Given as goal
 
 abbrev pub decreases-loop-number : goal.decreases-loop-number
