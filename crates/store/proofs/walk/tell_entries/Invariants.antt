@@ -1,4 +1,4 @@
-use Prim.Native.Nat.{◌-◌, ◌≤◌}
+use Prim.Native.Nat.{◌-◌}
 use Rattle.store.proofs.walk.tell_entries.Given as goal
 
 abbrev pub decreases-loop-i : goal.decreases-loop-i

@@ -1,4 +1,3 @@
-use Prim.Native.Nat.{◌≤◌}
 use Rattle.store.proofs.walk.walk.Given as goal
 
 abbrev pub decreases-loop-more : goal.decreases-loop-more

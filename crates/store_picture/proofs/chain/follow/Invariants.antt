@@ -1,4 +1,4 @@
-use Prim.Native.Nat.{◌-◌, ◌≤◌}
+use Prim.Native.Nat.{◌-◌}
 use Rattle.store_picture.proofs.chain.follow.Given as goal
 
 abbrev pub decreases-loop-count : goal.decreases-loop-count

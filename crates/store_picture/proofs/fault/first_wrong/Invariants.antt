@@ -1,4 +1,4 @@
-use Prim.Native.Nat.{◌-◌, ◌≤◌}
+use Prim.Native.Nat.{◌-◌}
 use Rattle.store_picture.proofs.fault.first_wrong.Given as goal
 
 abbrev pub decreases-loop-i : goal.decreases-loop-i
