@@ -1,5 +1,5 @@
 /* Document 01's example, then a walk and a release. Build and run from the repository:
-     rt staticlib host
+     tools/build host
      gcc -Wall -Wextra -Iinclude include/example.c target/staticlib/libhost.a -o target/example && target/example */
 #include <inttypes.h>
 #include <stdio.h>

@@ -1,6 +1,6 @@
-/* The row page index for a host that holds its own store: the C functions of crates/host, in target/staticlib/libhost.a
-   (`rt staticlib host`); and row_page_script, a whole script in one call, of crates/script, in target/staticlib/libscript.a
-   (`rt staticlib script`). docs/HOST.md tells what they mean; include/example.c and include/script_example.c are programs
+/* The row page index for a host that holds its own store: the C functions of crates/host_c, in target/staticlib/libhost.a
+   (`tools/build host`); and row_page_script, a whole script in one call, of crates/script_c, in target/staticlib/libscript.a
+   (`tools/build script`). docs/HOST.md tells what they mean; include/example.c and include/script_example.c are programs
    that call them.
 
    A store is a lent array of ROW_PAGE_INDEX_WORDS(capacity, nodes) words. A lent array is a pointer, never null and aligned for

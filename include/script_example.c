@@ -1,5 +1,5 @@
 /* Document 01's example as a script. Build and run from the repository:
-     rt staticlib script
+     tools/build script
      gcc -Wall -Wextra -Iinclude include/script_example.c target/staticlib/libscript.a -o target/script_example
      target/script_example */
 #include <stdio.h>

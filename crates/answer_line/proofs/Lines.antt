@@ -1,8 +1,7 @@
 -- The line of the answer that numbers tell: of a refusal, of none, of values.
-use Prim.Native.Nat.{ℕ, zero, suc, ◌<◌}
+use Prim.Native.Nat.{ℕ, zero, suc}
 use mathlib.Core.Path.{◌≡◌, refl}
 use mathlib.Core.List.{List, [], ◌∷◌}
-use native.Mathlib.Omega.{arith}
 use lib.ListN.{take}
 use borrow.Author.Tests.{ne_eqb}
 use Rattle.model.specs.Refusals.{result}

@@ -1,15 +1,15 @@
 -- Laws of `records`: the length, a turn of the loop that copies.
-use Prim.Native.Nat.{ℕ, zero, suc, ◌+◌, ◌≤◌, ◌<◌}
-use mathlib.Core.Path.{◌≡◌, refl, sym, ◌∙◌, ap}
+use Prim.Native.Nat.{ℕ, zero, suc, ◌+◌}
+use mathlib.Core.Path.{◌≡◌, refl, ◌∙◌, ap}
 use mathlib.Core.List.{List, [], ◌∷◌, ◌++◌}
 use native.Mathlib.Omega.{arith}
 use native.Mathlib.Nat.{add-zero}
 use native.Mathlib.Numerals.{add-one}
 use lib.ListN.{length, set}
-use Rattle.model.specs.Words.{Shape, fill, part, row, child}
+use Rattle.model.specs.Words.{Shape, fill, row, child}
 use Rattle.model.specs.LeafWalk.{page_entry, records}
 use Rattle.model.specs.declared.node.PageEntry.{PageEntry}
-use Rattle.model.proofs.Fill.{length-fill, fill_snoc}
+use Rattle.model.proofs.Fill.{fill_snoc}
 
 module _ (C : Shape) (w : List ℕ) (n : ℕ) where
   pub length-records : (i k : ℕ) → length (records C w n i k) ≡ k
@@ -31,9 +31,6 @@ module _ (C : Shape) (w : List ℕ) (n : ℕ) where
     pub none : zs ≡ upto 0
     unfolding fill records
     none = refl
-
-    pub length-upto : (k : ℕ) → length (upto k) ≡ length zs
-    length-upto k = length-fill zs 0 (records C w n 0 k)
 
     pub more : (i : ℕ) (ys : List PageEntry) (e : PageEntry) → ys ≡ upto i → e ≡ page_entry (row C w n i) (child C w n i) → set ys i e ≡ upto (i + 1)
     more i ys e is at =

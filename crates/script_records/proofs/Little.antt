@@ -1,12 +1,12 @@
 -- Little-endian numbers put together from their halves.
-use Prim.Native.Nat.{ℕ, zero, suc, ◌+◌, ◌*◌, ◌-◌, ◌/◌, ◌^◌, ◌≤◌, ◌<◌}
-use mathlib.Core.Path.{◌≡◌, refl, sym, ◌∙◌, ap}
+use Prim.Native.Nat.{ℕ, zero, suc, ◌+◌, ◌*◌, ◌^◌, ◌≤◌, ◌<◌}
+use mathlib.Core.Path.{◌≡◌, refl, ◌∙◌, ap}
 use mathlib.Core.List.{List, [], ◌∷◌, ◌++◌}
 use native.Mathlib.Omega.{arith}
 use lib.Pow.{pow-add}
 use native.Mathlib.Nat.{pow-succ', mul_assoc, mul-suc, mul-le-mul_left}
 use lib.ListN.{length, get_or, take, drop, length-drop}
-use lib.Seq.{take-add, drop-drop, drop-cons, length-take-le, get_or-drop}
+use lib.Seq.{take-add, drop-drop, drop-cons, length-take-le}
 use Rattle.script_records.specs.Records.{little, words_in}
 use Rattle.script_records.specs.Read.{Reads}
 

@@ -1,5 +1,5 @@
 -- What the functions of src/ read.
-use Rattle.std.specs.Prelude.{ℕ, ◌+◌, ◌*◌, ◌-◌, ◌/◌, ◌^◌, ◌≤◌, ◌<◌, List, ◌≡◌, length, take, drop}
+use Rattle.std.specs.Prelude.{ℕ, ◌-◌, ◌/◌, ◌^◌, ◌≤◌, ◌<◌, List, ◌≡◌, length, take, drop}
 use Rattle.model.specs.Words.{pick}
 use Rattle.script_records.specs.Records.{little, words_in, Request, body_length, whole}
 use Rattle.script_records.specs.Records as C

@@ -105,7 +105,7 @@ module _ {C : Shape} {P : ℕ} {w W : List ℕ} {k j : ℕ} {s : List ℕ} {p : 
           valid = f.valid;
           deep = f.deep;
           long = f.long;
-          no-bad = λ m a. (let q = first-seen f.seen f.after _ (Bad m) (sym f.parts ∙ a.one) (omega (arith, f.many)) in
+          no_bad = λ m a. (let q = first-seen f.seen f.after _ (Bad m) (sym f.parts ∙ a.one) (omega (arith, f.many)) in
               absurd (subst (λ (vs : List Visit). T (clean vs)) q.1 f.all-clean));
         }
 

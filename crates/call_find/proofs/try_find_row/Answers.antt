@@ -12,7 +12,8 @@ pub find_in_tree-requires : goal.find_in_tree-requires
 find_in_tree-requires c =
     let w = c.args.s.now in
     let o = is_open w _ (sym c.«open».ensures ∙ c.in-Open.is) in
-    subst (λ (h : StoreHeader). Header h.layout.capacity h.layout.pool w × (h.root.0 < h.layout.pool)) (sym o.header_is) (o.fits, o.inside)
+    let both = subst (λ (h : StoreHeader). Header h.layout.capacity h.layout.pool w × (h.root.0 < h.layout.pool)) (sym o.header_is) (o.fits, o.inside) in
+    record { fits = both.0; root_lt_pool = both.1 }
 
 pub returns-in-Refused : goal.returns-in-Refused
 unfolding try_find_row

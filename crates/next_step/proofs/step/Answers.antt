@@ -34,7 +34,8 @@ step_in_tree-requires c =
     let a = c.args in
     let w = a.s.now in
     let o = is_open w _ (sym c.«open».ensures ∙ c.in-Open.is) in
-    subst (λ (h : StoreHeader). Header h.layout.capacity h.layout.pool w × (h.root.0 < h.layout.pool)) (sym o.header_is) (o.fits, o.inside)
+    let both = subst (λ (h : StoreHeader). Header h.layout.capacity h.layout.pool w × (h.root.0 < h.layout.pool)) (sym o.header_is) (o.fits, o.inside) in
+    record { fits = both.0; root_lt_pool = both.1 }
 
 pub returns-in-Refused : goal.returns-in-Refused
 returns-in-Refused c =
@@ -50,4 +51,4 @@ returns-else-cursor c =
     let o = is_open w h (sym c.«open».ensures ∙ c.in-Open.is) in
     let e = ap (λ (x : StoreHeader). x.layout.capacity) o.header_is in
     let room : h.layout.capacity ≤ a.len = c.if-len-capacity.false in
-    tree-steps w a.cursor h o a.len _ (omega (arith, e)) c.if-cursor.false c.step_in_tree.ensures
+    tree-steps w a.cursor h o a.len _ (omega (arith, e)) c.if-cursor.false (c.step_in_tree.ensures.is, (c.step_in_tree.ensures.lies, c.step_in_tree.ensures.few))

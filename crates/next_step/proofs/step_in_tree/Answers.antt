@@ -10,11 +10,11 @@ give-requires c =
 pub returns-in-Unsound : goal.returns-in-Unsound
 returns-in-Unsound c =
     let a = c.args in
-    subst (InTree a.l a.s.now a.root.0 a.cursor) (sym c.stay.ensures)
-    (in_unsound a.l a.s.now a.root.0 a.cursor _ c.find_leaf.ensures c.requires.root_lt_pool _ c.in-Unsound.is)
+    let all = subst (InTree a.l a.s.now a.root.0 a.cursor) (sym c.stay.ensures) (in_unsound a.l a.s.now a.root.0 a.cursor _ c.find_leaf.ensures c.requires.root_lt_pool _ c.in-Unsound.is) in
+    record { is = all.0; lies = all.1.0; few = all.1.1 }
 
 pub returns-in-Leaf : goal.returns-in-Leaf
 returns-in-Leaf c =
     let a = c.args in
-    subst (InTree a.l a.s.now a.root.0 a.cursor) (sym c.give.ensures)
-    (in_leaf a.l a.s.now a.root.0 a.cursor _ c.find_leaf.ensures c.requires.root_lt_pool _ _ c.in-Leaf.is c.requires.fits)
+    let all = subst (InTree a.l a.s.now a.root.0 a.cursor) (sym c.give.ensures) (in_leaf a.l a.s.now a.root.0 a.cursor _ c.find_leaf.ensures c.requires.root_lt_pool _ _ c.in-Leaf.is c.requires.fits) in
+    record { is = all.0; lies = all.1.0; few = all.1.1 }

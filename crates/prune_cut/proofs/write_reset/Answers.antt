@@ -16,7 +16,7 @@ pub empty_node-requires : goal.empty_node-requires
 empty_node-requires c =
     let a = c.args in
     let d = c.requires in
-    rw (c.free_first.ensures ∙ ap (free_all (shape_of a.l) a.s.now) d.first) (freed-header _ _ _ _ d.ready.header, d.inside)
+    record { fits = rw (c.free_first.ensures ∙ ap (free_all (shape_of a.l) a.s.now) d.first) (freed-header _ _ _ _ d.ready.header); n_lt_pool = d.inside }
 
 pub returns : goal.returns
 returns c =

@@ -23,7 +23,7 @@ loop-place-init c =
 
 pub returns-then-depth-eq0 : goal.returns-then-depth-eq0
 unfolding Ending
-returns-then-depth-eq0 c = rw c.refused.ensures (too_long (rw c.rooted-path.ensures at c.loop-place.invariant) c.loop-place-test.true c.if-depth-eq0.true, tt)
+returns-then-depth-eq0 c = record { answer = rw c.refused.ensures (too_long (rw c.rooted-path.ensures at c.loop-place.invariant) c.loop-place-test.true c.if-depth-eq0.true); edge = rw c.refused.ensures tt }
 
 pub is_done-requires : goal.is_done-requires
 is_done-requires c =
@@ -54,7 +54,7 @@ unfolding Ending
 returns-in-Bad c =
     let x = c.loop-place in
     let z : 0 < x.path.depth = omega (arith, c.if-depth-eq0.false) in
-    rw c.refused-in-Bad.ensures (scanning_bad (rw c.rooted-path.ensures at x.invariant) c.loop-place-test.true z (sym (ap turn_of c.in-Bad.is) ∙ c.tested.ensures), tt)
+    record { answer = rw c.refused-in-Bad.ensures (scanning_bad (rw c.rooted-path.ensures at x.invariant) c.loop-place-test.true z (sym (ap turn_of c.in-Bad.is) ∙ c.tested.ensures)); edge = rw c.refused-in-Bad.ensures tt }
 
 pub turned-requires : goal.turned-requires
 turned-requires c =
@@ -91,7 +91,10 @@ unfolding Ending
 returns-in-Stopped c =
     let x = c.loop-place in
     let z : 0 < x.path.depth = omega (arith, c.if-depth-eq0.false) in
-    rw c.refused-in-Stopped.ensures (scanning_stop (rw c.rooted-path.ensures at x.invariant) c.loop-place-test.true z c.in-Down.beyond (sym (ap turn_of c.in-Down.is) ∙ c.tested.ensures) (refusal c.in-Stopped.r) (sym (ap (progress_of c.args.ids.now) c.in-Stopped.is) ∙ c.scan_node.ensures), tt)
+    record {
+      answer = rw c.refused-in-Stopped.ensures (scanning_stop (rw c.rooted-path.ensures at x.invariant) c.loop-place-test.true z c.in-Down.beyond (sym (ap turn_of c.in-Down.is) ∙ c.tested.ensures) (refusal c.in-Stopped.r) (sym (ap (progress_of c.args.ids.now) c.in-Stopped.is) ∙ c.scan_node.ensures));
+      edge = rw c.refused-in-Stopped.ensures tt;
+    }
 
 pub overflow_sub-used : goal.overflow_sub-used
 overflow_sub-used c =

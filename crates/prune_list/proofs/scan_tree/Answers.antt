@@ -35,8 +35,10 @@ unfolding Ending
 returns-in-Stopped c =
     let a = c.args in
     let p = c.requires.passed_root in
-    rw c.refused.ensures
-    (tree-stopped (shape_of a.l) a.l.pool a.s.now a.end.0 a.root.0 p.0 p.2 a.ids.now (refusal c.in-Stopped.r) (sym (ap (progress_of a.ids.now) c.in-Stopped.is) ∙ c.scan_node.ensures), tt)
+    record {
+      answer = rw c.refused.ensures (tree-stopped (shape_of a.l) a.l.pool a.s.now a.end.0 a.root.0 p.0 p.2 a.ids.now (refusal c.in-Stopped.r) (sym (ap (progress_of a.ids.now) c.in-Stopped.is) ∙ c.scan_node.ensures));
+      edge = rw c.refused.ensures tt;
+    }
 
 pub returns-in-On : goal.returns-in-On
 returns-in-On c =

@@ -13,7 +13,7 @@ use Rattle.release_pages.proofs.copy_leaf.Goals as goal
 
 pub returns-then-not-is_leaf : goal.returns-then-not-is_leaf
 unfolding fill
-returns-then-not-is_leaf c = let a = c.args in rw (branch-pages (shape_of a.l) a.s.now a.n.0 (branch-height c.header-h.ensures c.is_leaf.ensures c.if-not-is_leaf.true)) (omega arith, refl)
+returns-then-not-is_leaf c = let a = c.args in let e = branch-pages (shape_of a.l) a.s.now a.n.0 (branch-height c.header-h.ensures c.is_leaf.ensures c.if-not-is_leaf.true) in record { after = rw e (omega arith); list = rw e refl }
 
 pub loop-i-init : goal.loop-i-init
 loop-i-init c = (fill_start _ _ _ _ _ _, omega arith, omega arith, refl)
@@ -22,13 +22,13 @@ pub page-page-requires : goal.page-page-requires
 page-page-requires c = record { fits = c.requires.fits; n_lt_pool = (c.requires.n_lt_pool.0, omega (arith, c.requires.n_lt_pool.1, (ap (λ (h : RowPageIndexNodeHeader). h.count) c.header-h.ensures), c.loop-i-test.true)) }
 
 pub offset_bounds-pages-place : goal.offset_bounds-pages-place
-offset_bounds-pages-place c = let a = c.args in omega (arith, c.loop-i.invariant.1, c.loop-i.invariant.3, c.loop-i-test.true, c.requires.n_lt_pool.2, (ap (λ (h : RowPageIndexNodeHeader). h.count) c.header-h.ensures), leaf-length (shape_of a.l) a.s.now a.n.0 (leaf-height c.header-h.ensures c.is_leaf.ensures c.if-not-is_leaf.false), c.well-formed.0, c.well-formed.1)
+offset_bounds-pages-place c = let a = c.args in omega (arith, c.loop-i.invariant.1, c.loop-i.invariant.3, c.loop-i-test.true, c.requires.n_lt_pool.2, (ap (λ (h : RowPageIndexNodeHeader). h.count) c.header-h.ensures), leaf-length (shape_of a.l) a.s.now a.n.0 (leaf-height c.header-h.ensures c.is_leaf.ensures c.if-not-is_leaf.false))
 
 pub bounds-pages-place : goal.bounds-pages-place
 bounds-pages-place c = let a = c.args in omega (arith, c.loop-i.invariant.1, c.loop-i.invariant.3, c.loop-i-test.true, c.requires.n_lt_pool.2, (ap (λ (h : RowPageIndexNodeHeader). h.count) c.header-h.ensures), leaf-length (shape_of a.l) a.s.now a.n.0 (leaf-height c.header-h.ensures c.is_leaf.ensures c.if-not-is_leaf.false))
 
 pub overflow_add-place : goal.overflow_add-place
-overflow_add-place c = let a = c.args in omega (arith, c.loop-i.invariant.1, c.loop-i.invariant.3, c.loop-i-test.true, c.requires.n_lt_pool.2, (ap (λ (h : RowPageIndexNodeHeader). h.count) c.header-h.ensures), leaf-length (shape_of a.l) a.s.now a.n.0 (leaf-height c.header-h.ensures c.is_leaf.ensures c.if-not-is_leaf.false), c.well-formed.0, c.well-formed.1)
+overflow_add-place c = let a = c.args in omega (arith, c.loop-i.invariant.1, c.loop-i.invariant.3, c.loop-i-test.true, c.requires.n_lt_pool.2, (ap (λ (h : RowPageIndexNodeHeader). h.count) c.header-h.ensures), leaf-length (shape_of a.l) a.s.now a.n.0 (leaf-height c.header-h.ensures c.is_leaf.ensures c.if-not-is_leaf.false))
 
 pub loop-i-preserved : goal.loop-i-preserved
 loop-i-preserved c =

@@ -48,7 +48,7 @@ overflow_add-pos c =
     let g = c.if-not-t.false in
     let n = rw (part_to_end a.script.now v.pos) at c.record_length-pos.ensures in
     let f = next_fits v.s v.used bs some d g in
-    omega (arith, length-drop v.pos a.script.now, c.well-formed)
+    omega (arith, length-drop v.pos a.script.now)
 
 pub loop-pos-smaller : goal.loop-pos-smaller
 loop-pos-smaller c =
@@ -72,7 +72,7 @@ loop-pos-preserved c =
     let g = c.if-not-t.false in
     let n = rw (part_to_end a.script.now v.pos) at c.record_length-pos.ensures in
     let f = next_fits v.s v.used bs some d g in
-    let small : length v.out < 2 ^ 64 = omega (arith, c.well-formed) in
+    let small : length v.out < 2 ^ 64 = omega arith in
     let u = used-fits v.s v.used (first bs) v.invariant.2 in
     let l : length c.step-t.new.0 ≡ length a.s.now = search rules in (
       l,

@@ -34,7 +34,7 @@ returns-then-not-t c =
     let h : 0 < known_length bs = omega (arith, e, c.if-len-eq0.false) in
     let d = rw (part_to_end bytes v.taken) at c.step-t.ensures in
     let few : length v.s ≤ 4096 = omega (arith, v.invariant.0, x.requires.0) in
-    let small : length v.out < 2 ^ 64 = omega (arith, x.well-formed) in
+    let small : length v.out < 2 ^ 64 = omega arith in
     let room : v.at + 65536 ≤ length v.out = omega (arith, v.invariant.4, c.loop-out-test.true) in
     let u = used-fits v.s v.words (first bs) v.invariant.2 in
     let l : length c.step-t.new.0 ≡ length v.s = search rules in
@@ -52,7 +52,7 @@ overflow_add-taken c =
     let d = rw (part_to_end bytes v.taken) at c.step-t.ensures in
     let g = c.if-not-t.false in
     let f = goes-fits (memory v.s v.words) bs h (sym d.goes ∙ g) in
-    omega (arith, e, f, length-drop v.taken bytes, v.invariant.3, x.well-formed)
+    omega (arith, e, f, length-drop v.taken bytes, v.invariant.3)
 
 pub loop-out-smaller : goal.loop-out-smaller
 loop-out-smaller c =
@@ -79,7 +79,7 @@ loop-out-preserved c =
     let g = c.if-not-t.false in
     let f = goes-fits (memory v.s v.words) bs h (sym d.goes ∙ g) in
     let few : length v.s ≤ 4096 = omega (arith, v.invariant.0, x.requires.0) in
-    let small : length v.out < 2 ^ 64 = omega (arith, x.well-formed) in
+    let small : length v.out < 2 ^ 64 = omega arith in
     let room : v.at + 65536 ≤ length v.out = omega (arith, v.invariant.4, c.loop-out-test.true) in
     let u = used-fits v.s v.words (first bs) v.invariant.2 in
     let l : length c.step-t.new.0 ≡ length v.s = search rules in

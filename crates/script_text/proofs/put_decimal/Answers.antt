@@ -1,4 +1,5 @@
-use Rattle.std.proofs.Common.{◌∙◌, arith}
+use mathlib.Core.Path.{◌∙◌}
+use native.Mathlib.Omega.{arith}
 use Rattle.script_text.proofs.Decimal.{spells}
 use Rattle.script_text.proofs.put_decimal.Goals as goal
 

@@ -1,4 +1,4 @@
-use Rattle.std.proofs.Common.{arith}
+use native.Mathlib.Omega.{arith}
 use Rattle.script_text.proofs.Putting.{line-put}
 use Rattle.script_text.proofs.put_line_with.Goals as goal
 

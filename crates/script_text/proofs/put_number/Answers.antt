@@ -1,4 +1,4 @@
-use Rattle.std.proofs.Common.{arith}
+use native.Mathlib.Omega.{arith}
 use Rattle.script_text.proofs.Putting.{joins}
 use Rattle.script_text.proofs.put_number.Goals as goal
 

@@ -32,7 +32,7 @@ loop-t-preserved c =
     let a = c.args in
     let v = c.loop-t in
     let t = c.walk_once-t.ensures in
-    let small : length v.out < 2 ^ 64 = omega (arith, c.well-formed) in (
+    let small : length v.out < 2 ^ 64 = omega arith in (
       search rules,
       same t.puts ∙ v.invariant.1,
       λ o r p. v.invariant.2 o r (goes_on a.s.now v.c t small c.if-not-t.false o r p),

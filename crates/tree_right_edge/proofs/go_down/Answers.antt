@@ -1,13 +1,13 @@
 use Prim.Native.Nat.{ℕ, ◌-◌}
 use mathlib.Core.Path.{refl, sym, ap, ◌∙◌}
-use mathlib.Core.Logic.{⊎_elim}
 use native.Mathlib.Omega.{arith}
-use borrow.Author.Tests.{not-true, not-false}
+use mathlib.Core.Bool.{not}
 use Rattle.model.specs.Words.{count}
 use Rattle.model.specs.declared.node.RowPageIndexNodeHeader.{RowPageIndexNodeHeader}
 use Rattle.tree_right_edge.specs.Edge.{room_of}
 use Rattle.tree_right_edge.proofs.Turns.{has_room, no_room, begins, far, bad, entry, goes_on, arrives, stops}
 use Rattle.tree_right_edge.proofs.go_down.Goals as goal
+use Rattle.tree_right_edge.proofs.go_down.Goals.{then-not-full, else-not-full}
 
 pub loop-n-init : goal.loop-n-init
 loop-n-init c = begins _ _ _ _ _ _ _ refl
@@ -38,7 +38,10 @@ returns-then-h-eq0 c =
     let k = ap (λ (y : RowPageIndexNodeHeader). y.count) c.header-head.ensures in
     let good = sym c.is_sound-good.ensures ∙ c.if-not-good.false in
     arrives x.loop-n.invariant c.if-l-n.false good x.requires.height_le_max_height _ (ap (λ (y : ℕ). y - 1) k) (room_of c.if-not-full.room)
-    (⊎_elim (λ v. ap room_of v.1 ∙ has_room _ _ _ _ _ _ _ c.is_full-full.ensures k v.0.taken) (λ v. ap room_of v.1 ∙ no_room _ _ _ _ _ _ _ c.is_full-full.ensures k v.0.left) c.if-not-full.branch)
+    (elim c.if-not-full.branch [
+      then-not-full v ↦ ap room_of v.room-is ∙ has_room _ _ _ _ _ _ _ c.is_full-full.ensures k (ap not v.if-not-full.true)
+      | else-not-full v ↦ ap room_of v.room-is ∙ no_room _ _ _ _ _ _ _ c.is_full-full.ensures k (ap not v.if-not-full.false)
+    ])
     c.if-h-eq0.true _ refl refl refl refl
 
 pub row-r-requires : goal.row-r-requires
@@ -62,5 +65,8 @@ loop-n-preserved c =
     let good = sym c.is_sound-good.ensures ∙ c.if-not-good.false in
     rw (c.child-n.ensures, c.row-r.ensures)
     (goes_on x.loop-n.invariant c.if-l-n.false good x.requires.height_le_max_height _ (ap (λ (y : ℕ). y - 1) k) (room_of c.if-not-full.room)
-    (⊎_elim (λ v. ap room_of v.1 ∙ has_room _ _ _ _ _ _ _ c.is_full-full.ensures k v.0.taken) (λ v. ap room_of v.1 ∙ no_room _ _ _ _ _ _ _ c.is_full-full.ensures k v.0.left) c.if-not-full.branch)
+    (elim c.if-not-full.branch [
+      then-not-full v ↦ ap room_of v.room-is ∙ has_room _ _ _ _ _ _ _ c.is_full-full.ensures k (ap not v.if-not-full.true)
+      | else-not-full v ↦ ap room_of v.room-is ∙ no_room _ _ _ _ _ _ _ c.is_full-full.ensures k (ap not v.if-not-full.false)
+    ])
     (omega (arith, c.if-h-eq0.false)))
