@@ -107,7 +107,7 @@ module _ {C : Shape} {P : ℕ} {w : List ℕ} {e root f j : ℕ} {edge : Path} (
           once-each = edge-once climbed;
           are = climbed.went ∙ sym went-is ∙ sym firsts;
           many = ap (λ (ns : List ℕ). length ns) climbed.went ∙ sym E.topped.counted;
-          room = omega (arith, l, R.header.pool-high, R.free, R.Free-in);
+          room = omega (arith, l, R.header.pool-high, R.free, R.free_in);
         };
         first = firsts;
         inside = R.inside;
@@ -117,11 +117,11 @@ module _ {C : Shape} {P : ℕ} {w : List ℕ} {e root f j : ℕ} {edge : Path} (
   -- All entries go -----------------------------------------------------------------------------------------
   pub all-full : P - f < j → (k : ℕ) → reset_to C P w root e k (trims_of edge) ≡ record { answer = damaged; words = w }
   unfolding reset_to
-  all-full l k = rw (lt-leb (free_count w + length G) P (omega (arith, l, count-is, R.free, R.Free-in)))
+  all-full l k = rw (lt-leb (free_count w + length G) P (omega (arith, l, count-is, R.free, R.free_in)))
 
   pub all_done : j ≤ P - f → (k : ℕ) → reset_to C P w root e k (trims_of edge) ≡ record { answer = result (k ∷ j ∷ 0 ∷ []); words = free_all C (emptied C w root e) (went_of C w (trims_of edge)) }
   unfolding reset_to
-  all_done l k = rw (count-is, le-leb (free_count w + length G) P (omega (arith, l, count-is, R.free, R.Free-in)))
+  all_done l k = rw (count-is, le-leb (free_count w + length G) P (omega (arith, l, count-is, R.free, R.free_in)))
 
   pub whole_is : AllGo C w edge → (k : ℕ) → prune_with C P w root h e tree k (root_copies C P h e tree) ≡ reset_to C P w root e k (trims_of edge)
   unfolding prune_with root_copies prune_tree trim if_gone level reset_to
@@ -168,14 +168,14 @@ module _ {C : Shape} {P : ℕ} {w : List ℕ} {e root f j : ℕ} {edge : Path} (
         unfolding cut_to
         some-full l k =
             ap (cut_to C P w root e k (trims_of edge)) (found Sound q)
-            ∙ rw (length-listed r.nodes 0 r.count, lt-leb (free_count w + (length G + r.count)) P (omega (arith, l, count-is, R.free, R.Free-in)))
+            ∙ rw (length-listed r.nodes 0 r.count, lt-leb (free_count w + (length G + r.count)) P (omega (arith, l, count-is, R.free, R.free_in)))
 
         pub some-done : j + r.count ≤ P - f → (k : ℕ) → cut_to C P w root e k (trims_of edge) (copies_from C P h e tree (start C w root))
             ≡ record { answer = result (k ∷ (j + r.count) ∷ r.count ∷ []); words = cut_words C w root e (trims_of edge) (listed r.nodes 0 r.count) }
         unfolding cut_to
         some-done l k =
             ap (cut_to C P w root e k (trims_of edge)) (found Sound q)
-            ∙ rw (count-is, length-listed r.nodes 0 r.count, le-leb (free_count w + (length G + r.count)) P (omega (arith, l, count-is, R.free, R.Free-in)))
+            ∙ rw (count-is, length-listed r.nodes 0 r.count, le-leb (free_count w + (length G + r.count)) P (omega (arith, l, count-is, R.free, R.free_in)))
 
         -- and what may then be written
         pub writable : (r.count ≤ 31) × AllIn P r.nodes r.count → j + r.count ≤ P - f → Writable C P w root edge j r.nodes r.count
@@ -183,7 +183,7 @@ module _ {C : Shape} {P : ℕ} {w : List ℕ} {e root f j : ℕ} {edge : Path} (
         writable a l =
             let s = stands.1 in
             let right : (n : ℕ) → e ≤ start C w n → occ n G ≡ 0 = λ n z. none (occ n G) (λ o. omega (arith, s.early kept n o)) in
-            let fits : free_count w + (length G + r.count) ≤ P = omega (arith, l, count-is, R.free, R.Free-in) in
+            let fits : free_count w + (length G + r.count) ≤ P = omega (arith, l, count-is, R.free, R.free_in) in
             record {
               reset = resettable (omega (arith, l));
               low = shaped.1;

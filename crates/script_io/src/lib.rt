@@ -90,3 +90,101 @@ pub fn write_whole<W: io::Write>(clock: &impl Clock, output: &mut W, buf: &[u8])
     }
     true
 }
+
+#[cfg(test)]
+mod tests {
+    use super::*;
+    use std::io::{Error, Result};
+
+    // A signal at the first call, not ready at the second; then a byte a call, or a failure.
+    #[derive(Drop)]
+    struct Slow {
+        calls: usize,
+        fails: bool,
+    }
+
+    impl Slow {
+        fn next(&mut self) -> Result<()> {
+            self.calls = self.calls.saturating_add(1);
+            match self.calls {
+                1 => Err(Error::from(ErrorKind::Interrupted)),
+                2 => Err(Error::from(ErrorKind::WouldBlock)),
+                _ => {
+                    if self.fails {
+                        return Err(Error::from(ErrorKind::Other));
+                    }
+                    Ok(())
+                }
+            }
+        }
+    }
+
+    impl io::Read for Slow {
+        fn read(&mut self, buf: &mut [u8]) -> Result<usize> {
+            self.next()?;
+            if buf.is_empty() {
+                return Ok(0);
+            }
+            buf[0] = b'x';
+            Ok(1)
+        }
+    }
+
+    impl io::Write for Slow {
+        fn write(&mut self, buf: &[u8]) -> Result<usize> {
+            self.next()?;
+            Ok(buf.len().min(1))
+        }
+
+        fn flush(&mut self) -> Result<()> {
+            Ok(())
+        }
+    }
+
+    #[test]
+    fn reads_again(rt: HostRuntime) {
+        let mut input = Slow {
+            calls: 0,
+            fails: false,
+        };
+        let mut buf = [0u8; 4];
+        let got = read_some(&rt, &mut input, &mut buf);
+        assert_eq!(rt; got.count, 1);
+        assert!(rt; !got.failed);
+        assert_eq!(rt; buf[0], b'x');
+        assert_eq!(rt; input.calls, 3);
+    }
+
+    #[test]
+    fn a_read_fails(rt: HostRuntime) {
+        let mut input = Slow {
+            calls: 0,
+            fails: true,
+        };
+        let mut buf = [0u8; 4];
+        let got = read_some(&rt, &mut input, &mut buf);
+        assert_eq!(rt; got.count, 0);
+        assert!(rt; got.failed);
+        assert_eq!(rt; input.calls, 3);
+    }
+
+    #[test]
+    fn writes_the_whole(rt: HostRuntime) {
+        let mut output = Slow {
+            calls: 0,
+            fails: false,
+        };
+        assert!(rt; write_whole(&rt, &mut output, b"four"));
+        assert_eq!(rt; output.calls, 6);
+    }
+
+    #[test]
+    fn a_write_fails(rt: HostRuntime) {
+        let mut output = Slow {
+            calls: 0,
+            fails: true,
+        };
+        assert!(rt; !write_whole(&rt, &mut output, b"four"));
+        assert_eq!(rt; output.calls, 3);
+    }
+}

@@ -5,7 +5,7 @@ use Rattle.prune_cut.proofs.Edges.{resettable, all-full, all_done}
 use Rattle.prune_cut.proofs.prune_all.Goals as goal
 
 pub overflow_sub-l : goal.overflow_sub-l
-overflow_sub-l c = let R = c.requires.0 in omega (arith, R.free, R.Free-in)
+overflow_sub-l c = let R = c.requires.0 in omega (arith, R.free, R.free_in)
 
 pub returns-then-l-h : goal.returns-then-l-h
 returns-then-l-h c =

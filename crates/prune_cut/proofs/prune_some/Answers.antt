@@ -17,7 +17,7 @@ pub overflow_add-freed : goal.overflow_add-freed
 overflow_add-freed c = let p = c.requires in omega (arith, count-few p.0 p.1, c.find_copies-copied.ensures.few.0)
 
 pub overflow_sub-l : goal.overflow_sub-l
-overflow_sub-l c = let R = c.requires.0 in omega (arith, R.free, R.Free-in)
+overflow_sub-l c = let R = c.requires.0 in omega (arith, R.free, R.free_in)
 
 pub returns-then-l-h : goal.returns-then-l-h
 returns-then-l-h c =

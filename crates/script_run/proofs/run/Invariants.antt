@@ -1,10 +1,9 @@
 use Prim.Native.Nat.{◌≤◌}
-use mathlib.Core.Path.{◌≡◌}
 use lib.ListN.{length}
 use Rattle.script_run.proofs.run.Given as goal
 
 abbrev pub invariant-loop-turns : goal.invariant-loop-turns
-invariant-loop-turns g l = (length l.words ≡ length l.initial.words) × (length l.bytes ≡ length l.initial.bytes) × (length l.out ≡ length l.initial.out) × (l.state.used ≤ length l.words) × (l.state.at ≤ l.state.end) × (l.state.end ≤ length l.bytes)
+invariant-loop-turns g l = (l.state.used ≤ length l.words) × (l.state.at ≤ l.state.end) × (l.state.end ≤ length l.bytes)
 
 abbrev pub decreases-loop-turns : goal.decreases-loop-turns
 decreases-loop-turns g l = l.turns
