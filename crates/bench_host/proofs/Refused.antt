@@ -1,5 +1,5 @@
 -- A refusal gives no leaf.
-use mathlib.Core.Path.{◌≡◌, refl}
+use mathlib.Core.Path.{◌≡◌}
 use Rattle.model.specs.Refusals.{refusal}
 use Rattle.model.specs.declared.answer.Refusal.{Refusal}
 use Rattle.model.proofs.Answers.{is-refusal}

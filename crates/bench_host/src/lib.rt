@@ -26,8 +26,7 @@ const REFUSED: u64 = u64::MAX;
 const UNSOUND: u64 = u64::MAX - 1;
 
 // The header test alone: the number of nodes.
-#[unsafe(no_mangle)]
-pub extern "C" fn bench_open(words: &[u64]) -> u64
+pub fn bench_open(words: &[u64]) -> u64
     ensures { result ≡ open_number words.now }
 {
     match header::open(words) {
@@ -47,8 +46,7 @@ fn limit(bounded: u64, next: u64) -> Limit
 }
 
 // The header test, and the node test of one node: the first of its child numbers out of range, or its count.
-#[unsafe(no_mangle)]
-pub extern "C" fn bench_test_node(
+pub fn bench_test_node(
     words: &[u64],
     node: u64,
     height: u64,
@@ -75,8 +73,7 @@ pub extern "C" fn bench_test_node(
 }
 
 // The header test, and a reading of the whole tree: its nodes.
-#[unsafe(no_mangle)]
-pub extern "C" fn bench_survey(words: &[u64], ends: u64) -> u64
+pub fn bench_survey(words: &[u64], ends: u64) -> u64
     ensures { result ≡ survey_of words.now ends }
 {
     match header::open(words) {
@@ -89,8 +86,7 @@ pub extern "C" fn bench_survey(words: &[u64], ends: u64) -> u64
 }
 
 // One step of a leaf walk from a row, the records as words: the leaf's end.
-#[unsafe(no_mangle)]
-pub extern "C" fn bench_next(words: &[u64], row: u64, list: &mut [u64]) -> u64
+pub fn bench_next(words: &[u64], row: u64, list: &mut [u64]) -> u64
     ensures number { result ≡ end_number (next_words_of words.now (seek row) list.old).answer }
     ensures list { list.new ≡ (next_words_of words.now (seek row) list.old).words }
 {

@@ -17,8 +17,7 @@ use model::id::{PageID, RowID};
 use next_words;
 
 // A new store of so many nodes for capacity entries each, whose rows begin at start.
-#[unsafe(no_mangle)]
-pub extern "C" fn row_page_index_create(
+pub fn row_page_index_create(
     words: &mut [u64],
     capacity: u64,
     nodes: u64,
@@ -33,8 +32,7 @@ pub extern "C" fn row_page_index_create(
 }
 
 // Values: start, end, nodes taken.
-#[unsafe(no_mangle)]
-pub extern "C" fn row_page_index_append(
+pub fn row_page_index_append(
     words: &mut [u64],
     count: u64,
     page: u64,
@@ -52,8 +50,7 @@ pub extern "C" fn row_page_index_append(
 }
 
 // One value, the page; or none.
-#[unsafe(no_mangle)]
-pub extern "C" fn row_page_index_find(words: &[u64], row: u64, answer: &mut [u64]) -> u64
+pub fn row_page_index_find(words: &[u64], row: u64, answer: &mut [u64]) -> u64
     ensures answer { Tells answer.old (answer_words (served (on_words words.now) (find row)).answer) answer.new result }
 {
     let n = answer_reads::location_numbers(call_find::try_find_row(words, RowID(row)));
@@ -61,8 +58,7 @@ pub extern "C" fn row_page_index_find(words: &[u64], row: u64, answer: &mut [u64
 }
 
 // Values: entries removed, nodes freed, levels collapsed.
-#[unsafe(no_mangle)]
-pub extern "C" fn row_page_index_prune(
+pub fn row_page_index_prune(
     words: &mut [u64],
     start: u64,
     end: u64,
@@ -82,8 +78,7 @@ pub extern "C" fn row_page_index_prune(
 }
 
 // Values: nodes freed, pages. The page ids go into pages.
-#[unsafe(no_mangle)]
-pub extern "C" fn row_page_index_destroy(
+pub fn row_page_index_destroy(
     words: &mut [u64],
     pivot: u64,
     pages: &mut [u64],
@@ -98,8 +93,7 @@ pub extern "C" fn row_page_index_destroy(
 }
 
 // Values: nodes freed, pages; of an empty store.
-#[unsafe(no_mangle)]
-pub extern "C" fn row_page_index_destroy_empty(words: &mut [u64], answer: &mut [u64]) -> u64
+pub fn row_page_index_destroy_empty(words: &mut [u64], answer: &mut [u64]) -> u64
     ensures words { words.new ≡ (served (on_words words.old) destroy_empty).arrays.words }
     ensures answer { Tells answer.old (answer_words (served (on_words words.old) destroy_empty).answer) answer.new result }
 {
@@ -108,8 +102,7 @@ pub extern "C" fn row_page_index_destroy_empty(words: &mut [u64], answer: &mut [
 }
 
 // Values: entries, tree nodes, free nodes.
-#[unsafe(no_mangle)]
-pub extern "C" fn row_page_index_check(words: &[u64], answer: &mut [u64]) -> u64
+pub fn row_page_index_check(words: &[u64], answer: &mut [u64]) -> u64
     ensures answer { Tells answer.old (answer_words (served (on_words words.now) check).answer) answer.new result }
 {
     let n = answer_reads::checked_numbers(call_check::full_check(words));
@@ -117,8 +110,7 @@ pub extern "C" fn row_page_index_check(words: &[u64], answer: &mut [u64]) -> u64
 }
 
 // Keeps a row.
-#[unsafe(no_mangle)]
-pub extern "C" fn row_page_index_seek(cursor: &mut [u64], row: u64)
+pub fn row_page_index_seek(cursor: &mut [u64], row: u64)
     ensures { cursor.new ≡ (served (on_cursor cursor.old) (seek row)).arrays.cursor }
 {
     answer_words::put(cursor, 0, row);
@@ -126,8 +118,7 @@ pub extern "C" fn row_page_index_seek(cursor: &mut [u64], row: u64)
 }
 
 // Values: start, end and count of the leaf; or none. Row and page of each entry go into records.
-#[unsafe(no_mangle)]
-pub extern "C" fn row_page_index_next(
+pub fn row_page_index_next(
     words: &[u64],
     cursor: &mut [u64],
     records: &mut [u64],

@@ -1,6 +1,6 @@
 -- A cursor as two lent words: its row, and 0 where it is not done. Where a word is not there, the row is 0 and the cursor
 -- is done.
-use Rattle.std.specs.Prelude.{ℕ, List, [], ◌∷◌, Bool, true, false, not, get_or, eqb}
+use Rattle.std.specs.Prelude.{ℕ, List, [], ◌∷◌, not, get_or, eqb}
 use Rattle.model.specs.Words.{pick, fill}
 use Rattle.model.specs.Refusals.{Answer}
 use Rattle.model.specs.LeafWalk.{cursor_at, gives_leaf}

@@ -1,18 +1,16 @@
 -- What next_words promises is an equation: next on the words read as records, and its list written back.
-use Prim.Native.Nat.{ℕ, zero, suc, ◌+◌, ◌*◌, ◌-◌, ◌/◌, ◌<◌, ◌≤◌}
+use Prim.Native.Nat.{ℕ, ◌+◌, ◌*◌, ◌/◌, ◌<◌, ◌≤◌}
 use mathlib.Core.List.{List, [], ◌∷◌, ◌++◌}
-use mathlib.Core.Path.{◌≡◌, refl, sym, ap, ◌∙◌, subst}
+use mathlib.Core.Path.{◌≡◌, refl, sym, ap, ◌∙◌}
 use native.Mathlib.Omega.{arith}
 use lib.ListN.{length, drop, length-append, length-drop}
 use Rattle.model.specs.Words.{fill}
-use Rattle.model.specs.Refusals.{Answer, next_leaf}
-use Rattle.model.specs.LeafWalk.{page_entry, next_leaf_of}
-use Rattle.model.specs.declared.answer.NextLeaf.{NextLeaf}
+use Rattle.model.specs.Refusals.{next_leaf}
 use Rattle.model.specs.declared.node.PageEntry.{PageEntry}
 use Rattle.model.specs.declared.cursor.RowPageIndexMemCursor.{RowPageIndexMemCursor}
 use Rattle.model.proofs.Answers.{next-leaf-one}
 use Rattle.model.proofs.Fill.{fill_is}
-use Rattle.next_words.specs.Written.{record_words, WordSteps, records_in, WordOutcome, next_words_of}
+use Rattle.next_words.specs.Written.{record_words, WordSteps, records_in, next_words_of}
 use Rattle.next_words.specs.declared.WordStep.{WordStep}
 
 words-length : (a : List PageEntry) → length (record_words a) ≡ 2 * length a

@@ -1,15 +1,15 @@
 -- The words of a leaf's pairs are its records, written as words.
 use Prim.Native.Nat.{ℕ, zero, suc, ◌+◌, ◌*◌, ◌≤◌, ◌<◌}
 use mathlib.Core.Path.{◌≡◌, refl, sym, ◌∙◌, ap, subst}
-use mathlib.Core.List.{List, [], ◌∷◌, ◌++◌}
+use mathlib.Core.List.{List, [], ◌∷◌}
 use native.Mathlib.Omega.{arith}
 use native.Mathlib.Numerals.{add-one}
-use lib.ListN.{length, set, take, drop, length-set, get_or}
+use lib.ListN.{length, set, take, get_or}
 use lib.Seq.{take-suc, length-take-le}
-use Rattle.model.specs.Words.{lent, shape, fill, part, row, child, pair_words, Header}
-use Rattle.model.specs.LeafWalk.{page_entry, records}
+use Rattle.model.specs.Words.{lent, shape, fill, row, child, pair_words, Header}
+use Rattle.model.specs.LeafWalk.{records}
 use Rattle.model.specs.declared.node.PageEntry.{PageEntry}
-use Rattle.model.proofs.Fill.{length-fill, fill_snoc}
+use Rattle.model.proofs.Fill.{fill_snoc}
 use Rattle.model.proofs.Parts.{pair_first}
 use Rattle.node_read.specs.Layout.{shape_of, Fits}
 use Rattle.next_records.specs.Listing.{records_of}

@@ -1,5 +1,5 @@
 -- The leaf walk with records written as words.
-use Rattle.std.specs.Prelude.{ℕ, ◌*◌, ◌/◌, ◌≤◌, List, [], ◌∷◌, ◌≡◌, length}
+use Rattle.std.specs.Prelude.{ℕ, ◌/◌, ◌≤◌, List, [], ◌∷◌, ◌≡◌, length}
 use Rattle.model.specs.Words.{lent, fill}
 use Rattle.model.specs.Refusals.{Answer, next_leaf}
 use Rattle.model.specs.LeafWalk.{page_entry, next_leaf_of}

@@ -40,8 +40,7 @@ fn run_on(s: &mut [u64], script: &[u8], out: &mut [u8]) -> usize
 }
 
 // The listing of a script: the bytes that fit are written, the rest stays, and the whole length is returned.
-#[unsafe(no_mangle)]
-pub extern "C" fn row_page_script(script: &[u8], out: &mut [u8]) -> usize
+pub fn row_page_script(script: &[u8], out: &mut [u8]) -> usize
     ensures bytes { out.new ≡ take (length out.old) (listing script.now) ++ drop (length (listing script.now)) out.old }
     ensures length { result ≡ capped (length (listing script.now)) }
 {

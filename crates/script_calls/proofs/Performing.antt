@@ -1,14 +1,14 @@
 -- What each call does, from its answer, its words and its line.
-use Prim.Native.Nat.{ℕ, ◌+◌, ◌*◌, ◌≤◌, ◌<◌}
-use mathlib.Core.Path.{◌≡◌, refl, sym, ◌∙◌, ap}
-use mathlib.Core.List.{List, [], ◌∷◌, ◌++◌}
-use mathlib.Core.Bool.{Bool, true, false, ◌&&◌}
+use Prim.Native.Nat.{ℕ, ◌+◌, ◌≤◌, ◌<◌}
+use mathlib.Core.Path.{◌≡◌, refl}
+use mathlib.Core.List.{List, [], ◌++◌}
+use mathlib.Core.Bool.{true, false, ◌&&◌}
 use native.Mathlib.Omega.{arith}
 use lib.ListN.{length, take, drop}
 use lib.Dec.{leb, leb→le}
 use borrow.Author.Tests.{le-leb, lt-leb}
-use Rattle.model.specs.Words.{lent, pick, in_range, store_length}
-use Rattle.model.specs.Refusals.{Answer, result, refused, Outcome}
+use Rattle.model.specs.Words.{lent, in_range, store_length}
+use Rattle.model.specs.Refusals.{Answer, result, refused}
 use Rattle.model.specs.Create.{create}
 use Rattle.model.specs.Lookup.{try_find_row}
 use Rattle.model.specs.Append.{insert_row_page}

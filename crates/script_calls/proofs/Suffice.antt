@@ -1,14 +1,14 @@
 -- "the lists lent here always suffice": refusal 13 does not come, on any words, where there are at most 4,096 of them.
 use Prim.Native.Nat.{ℕ, ◌+◌, ◌*◌, ◌≤◌, ◌<◌}
-use mathlib.Core.Path.{◌≡◌, refl, sym, ◌∙◌, ap}
+use mathlib.Core.Path.{◌≡◌, refl}
 use mathlib.Core.List.{List}
 use mathlib.Core.Bool.{Bool, true, false}
 use native.Mathlib.Omega.{arith}
-use native.Mathlib.Nat.{mul-le-mul_left, mul-le-mul_right}
+use native.Mathlib.Nat.{mul-le-mul_left}
 use lib.ListN.{length, length-replicate}
-use lib.Dec.{leb, ltb, eqb}
+use lib.Dec.{leb, eqb}
 use borrow.Author.Tests.{le-ltb, le-leb, eqb-false}
-use Rattle.model.specs.Words.{store_shape, lent, pick, capacity, pool, root, free_count, height, store_length}
+use Rattle.model.specs.Words.{store_shape, lent, capacity, pool, root, free_count, height}
 use Rattle.model.specs.Reading.{Fault, clear, at, unless_bad, first_bad, root_visits, Reached, unsound, leaf, root_leaf, to_row, root_entries, root_nodes}
 use Rattle.model.specs.Refusals.{Answer, result, refused, header_ok}
 use Rattle.model.specs.LeafWalk.{page_entry, given, next_leaf_of}

@@ -1,13 +1,13 @@
 -- 01, "Script program": the memory of a script, and what each record does with it.
-use Rattle.std.specs.Prelude.{ℕ, zero, suc, ◌+◌, List, [], ◌∷◌, ◌++◌, Bool, true, false, ◌&&◌, length, take, drop, replicate, leb}
+use Rattle.std.specs.Prelude.{ℕ, zero, suc, ◌+◌, List, [], ◌++◌, Bool, true, false, ◌&&◌, length, take, drop, replicate, leb}
 use Rattle.model.specs.Words.{lent, pick, in_range, store_length}
-use Rattle.model.specs.Refusals.{Answer, result, refused, Outcome}
+use Rattle.model.specs.Refusals.{Answer, result, refused}
 use Rattle.model.specs.Create.{create}
 use Rattle.model.specs.Lookup.{try_find_row}
 use Rattle.model.specs.Append.{insert_row_page}
 use Rattle.model.specs.Prune.{prune_checkpoint_prefix}
-use Rattle.model.specs.LeafWalk.{seek, page_entry, Stepped, next_leaf_of}
-use Rattle.model.specs.Release.{Released, destroy}
+use Rattle.model.specs.LeafWalk.{seek, page_entry, next_leaf_of}
+use Rattle.model.specs.Release.{destroy}
 use Rattle.model.specs.declared.node.PageEntry.{PageEntry}
 use Rattle.model.specs.declared.cursor.RowPageIndexMemCursor.{RowPageIndexMemCursor}
 use Rattle.script_text.specs.Lines.{line}

@@ -1,5 +1,5 @@
 -- What the functions of src/ do, in the words of specs/Calls.
-use Rattle.std.specs.Prelude.{ℕ, ◌+◌, List, [], ◌≡◌}
+use Rattle.std.specs.Prelude.{ℕ, List, ◌≡◌}
 use Rattle.script_text.specs.Lines.{Puts}
 use Rattle.script_calls.specs.Calls.{Memory, Performed}
 use Rattle.script_calls.specs.declared.Progress.{Progress}

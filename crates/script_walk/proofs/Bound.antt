@@ -1,17 +1,17 @@
 -- A walk ends on any words: each leaf but the last ends above the row that the walk came with, and the next one is sought
 -- for that end. So the nodes that end above the row kept get fewer.
-use Prim.Native.Nat.{ℕ, zero, suc, ◌+◌, ◌*◌, ◌-◌, ◌^◌, ◌≤◌, ◌<◌}
+use Prim.Native.Nat.{ℕ, zero, suc, ◌+◌, ◌-◌, ◌^◌, ◌≤◌, ◌<◌}
 use mathlib.Core.Path.{◌≡◌, refl, sym, ◌∙◌, ap, subst}
-use mathlib.Core.List.{List, [], ◌∷◌}
-use mathlib.Core.Bool.{Bool, true, false, ◌&&◌}
+use mathlib.Core.List.{List}
+use mathlib.Core.Bool.{Bool, true, false}
 use native.Mathlib.Omega.{arith}
 use lib.ListN.{length}
-use lib.Dec.{T, leb, ltb, eqb}
+use lib.Dec.{leb, ltb, eqb}
 use borrow.Author.Tests.{ltb-true, ltb-false, leb-false, lt-ltb, le-ltb, eqb-true, eqb-false}
-use Rattle.model.specs.Words.{store_shape, lent, Shape, pick, capacity, pool, root, part, height, count, start, end, row, child, row_limit, max_height}
-use Rattle.model.specs.Tree.{Limit, Open, Below, node_at, meets, end_sound, sound, empty_root, Under}
+use Rattle.model.specs.Words.{store_shape, lent, Shape, pick, capacity, pool, root, height, count, start, end, row, child, row_limit, max_height}
+use Rattle.model.specs.Tree.{Limit, Open, Below, node_at, end_sound, sound, empty_root, Under}
 use Rattle.model.specs.Reading.{Reached, unsound, leaf, next_row, checked, descend, root_leaf, last_not_above, to_row}
-use Rattle.model.specs.Refusals.{Answer, result, refused, header_ok}
+use Rattle.model.specs.Refusals.{header_ok}
 use Rattle.model.specs.LeafWalk.{cursor_at, is_last, given, next_leaf_of, gives_leaf}
 use Rattle.model.specs.declared.node.PageEntry.{PageEntry}
 use Rattle.model.specs.declared.cursor.RowPageIndexMemCursor.{RowPageIndexMemCursor}

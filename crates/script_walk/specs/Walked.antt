@@ -1,10 +1,8 @@
 -- A step of a script's walk, with its lines.
-use Rattle.std.specs.Prelude.{ℕ, ◌+◌, List, [], ◌≡◌}
+use Rattle.std.specs.Prelude.{ℕ, List, ◌≡◌}
 use Rattle.model.specs.LeafWalk.{Stepped, gives_leaf}
 use Rattle.script_text.specs.Lines.{Puts}
 use Rattle.answer_line.specs.Answers.{leaf_line}
-use Rattle.script_calls.specs.Calls.{Memory, Performed}
-use Rattle.script_calls.specs.declared.Progress.{Progress}
 use Rattle.script_walk.specs.declared.WalkStep.{WalkStep}
 
 -- what a step of a walk does: it goes on where a leaf was given

@@ -1,5 +1,4 @@
 use mathlib.Core.Path.{refl, sym, ◌∙◌}
-use borrow.Author.Tests.{not-true, not-false}
 use Rattle.model.specs.Words.{fill}
 use Rattle.host_cursor.proofs.cursor_out.Goals as goal
 

@@ -1,6 +1,5 @@
 use native.Mathlib.Omega.{arith}
 use mathlib.Core.Path.{sym, ◌∙◌}
-use borrow.Author.Tests.{not-true, not-false}
 use Rattle.model.proofs.Header.{range_of}
 use Rattle.script_calls.proofs.Performing.{out_of_range, too_many, enough}
 use Rattle.script_create.proofs.create_length.Goals as goal

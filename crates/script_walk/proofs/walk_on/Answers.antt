@@ -22,10 +22,10 @@ walk_once-t-requires c = c.loop-t.invariant.0
 pub returns-then-not-t : goal.returns-then-not-t
 returns-then-not-t c =
     let v = c.loop-t in
-    v.invariant.2 _ _ (ends c.args.s.now v.c c.walk_once-t.ensures c.if-not-t.true)
+    v.invariant.2 _ _ (ends c.args.s.now v.c c.walk_once-t.ensures (not-true _ c.if-not-t.true))
 
 pub loop-t-smaller : goal.loop-t-smaller
-loop-t-smaller c = fewer c.args.s.now c.loop-t.c c.walk_once-t.ensures c.if-not-t.false
+loop-t-smaller c = fewer c.args.s.now c.loop-t.c c.walk_once-t.ensures (not-false _ c.if-not-t.false)
 
 pub loop-t-preserved : goal.loop-t-preserved
 loop-t-preserved c =
@@ -35,5 +35,5 @@ loop-t-preserved c =
     let small : length v.out < 2 ^ 64 = omega arith in (
       search rules,
       same t.puts ∙ v.invariant.1,
-      λ o r p. v.invariant.2 o r (goes_on a.s.now v.c t small c.if-not-t.false o r p),
+      λ o r p. v.invariant.2 o r (goes_on a.s.now v.c t small (not-false _ c.if-not-t.false) o r p),
     )
