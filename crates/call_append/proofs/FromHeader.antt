@@ -2,7 +2,7 @@
 use Prim.Native.Nat.{ℕ, ◌<◌}
 use mathlib.Core.List.{List}
 use mathlib.Core.Path.{◌≡◌, refl, sym, ◌∙◌, subst}
-use Rattle.model.specs.Words.{lent, pool, root, free_head, free_count}
+use Rattle.model.specs.Words.{lent, free_head, free_count}
 use Rattle.model.specs.Tree.{Limit, Open}
 use Rattle.model.specs.Reading.{Reached, unsound, leaf, root_leaf, to_right}
 use Rattle.model.specs.Refusals.{Answer, refused, Outcome, refusal}

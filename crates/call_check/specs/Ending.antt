@@ -1,5 +1,5 @@
 -- The last of the full check: the chain, and tree nodes and free nodes together.
-use Rattle.std.specs.Prelude.{ℕ, ◌+◌, List, [], ◌∷◌, Bool, ◌&&◌, eqb}
+use Rattle.std.specs.Prelude.{◌+◌, [], ◌∷◌, Bool, ◌&&◌, eqb}
 use Rattle.model.specs.Words.{pick}
 use Rattle.model.specs.Refusals.{Answer, result, damaged}
 use Rattle.node_read.specs.declared.header.StoreHeader.{StoreHeader}

@@ -1,6 +1,6 @@
 -- A leaf that a path reached: its entries can be searched.
-use Rattle.std.specs.Prelude.{ℕ, ◌<◌, ◌≤◌, List, ◌⊎◌, ◌≡◌, T}
-use Rattle.model.specs.Words.{Shape, part, count}
+use Rattle.std.specs.Prelude.{ℕ, ◌<◌, ◌≤◌, List, T}
+use Rattle.model.specs.Words.{Shape, count}
 use Rattle.model.specs.Tree.{pairs_from, rising}
 
 pub record IsLeaf (C : Shape) (P : ℕ) (w : List ℕ) (n : ℕ) : Type 0 where

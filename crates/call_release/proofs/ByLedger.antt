@@ -7,7 +7,7 @@ use lib.ListN.{length, set, drop, length-set}
 use lib.Seq.{get_or-set_same, get_or-set_other}
 use lib.Dec.{ltb}
 use borrow.Author.Tests.{le-leb, le-ltb, ltb-true, ltb-false}
-use Rattle.model.specs.Words.{store_shape, Shape, lent, fill, word, capacity, pool, root, free_head, free_count, height, free_all, Header}
+use Rattle.model.specs.Words.{store_shape, Shape, lent, fill, word, pool, root, free_head, free_count, height, free_all, Header}
 use Rattle.model.specs.Reading.{clear, Entry, page_ids, occ, root_entries, root_nodes}
 use Rattle.model.specs.Refusals.{Answer, result}
 use Rattle.model.specs.WellFormed.{Chain, WellFormed}

@@ -1,7 +1,6 @@
 use Prim.Native.Nat.{◌≤◌}
 use native.Mathlib.Omega.{arith}
 use mathlib.Core.Path.{sym, ap, ◌∙◌}
-use borrow.Author.Tests.{not-true, not-false}
 use Rattle.node_read.specs.Layout.{shape_of}
 use Rattle.model.specs.Refusals.{Outcome}
 use Rattle.tree_right_edge.specs.Edge.{room_of}

@@ -1,5 +1,4 @@
 use mathlib.Core.Path.{sym}
-use borrow.Author.Tests.{not-true, not-false}
 use Rattle.call_check.proofs.Following.{end-chain, end-count, end-held}
 use Rattle.call_check.proofs.check_counts.Goals as goal
 

@@ -1,4 +1,4 @@
-use borrow.Author.Tests.{eqb-true, eqb-false, not-true, not-false}
+use borrow.Author.Tests.{eqb-true, eqb-false}
 use mathlib.Core.Path.{refl, sym, ◌∙◌, ap}
 use lib.Dec.{eqb}
 use Rattle.model.specs.declared.node.RowPageIndexNodeHeader.{RowPageIndexNodeHeader}

@@ -1,8 +1,7 @@
-use mathlib.Core.Bool.{Bool, true, false}
+use mathlib.Core.Bool.{Bool}
 use mathlib.Core.List.{[]}
 use mathlib.Core.Path.{sym, ap, ◌∙◌}
 use native.Mathlib.Omega.{arith}
-use borrow.Author.Tests.{not-true, not-false}
 use Rattle.node_read.specs.Layout.{shape_of}
 use Rattle.model.specs.Words.{pick}
 use Rattle.model.specs.Reading.{to_row}

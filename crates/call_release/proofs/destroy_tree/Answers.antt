@@ -20,5 +20,8 @@ free_first-requires c =
 pub returns : goal.returns
 unfolding released_words
 returns c =
-    let a = c.args in record { words = c.set_word.ensures
-          ∙ ap (λ (v : List ℕ). set v 2 a.l.pool) (c.free_first.ensures ∙ ap (free_all (shape_of a.l) a.s.now) (take_all a.k (root_nodes (shape_of a.l) a.s.now a.root.0) (omega (arith, c.requires.k_value.0)))); list = c.copy_tree.ensures }
+    let a = c.args in record {
+      words = c.set_word.ensures
+          ∙ ap (λ (v : List ℕ). set v 2 a.l.pool) (c.free_first.ensures ∙ ap (free_all (shape_of a.l) a.s.now) (take_all a.k (root_nodes (shape_of a.l) a.s.now a.root.0) (omega (arith, c.requires.k_value.0))));
+      list = c.copy_tree.ensures;
+    }
