@@ -10,7 +10,6 @@ use Rattle.model.specs.Words.{row_limit, max_height}
 use Rattle.model.specs.declared.answer.Refusal.{Refusal}
 use Rattle.model.specs.declared.answer.Refusal.TheVariants.{RowLimit, HeightLimit, NoRoom}
 use Rattle.model.proofs.Tests.{by_test}
-use Rattle.append_limits.specs.declared.Ruling.{Ruling}
 use Rattle.append_limits.specs.declared.Ruling.TheVariants.{Fine, Refused}
 use Rattle.append_limits.specs.Limits.{limits_told}
 

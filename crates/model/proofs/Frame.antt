@@ -1,5 +1,5 @@
 -- A tree depends on the words of its nodes alone.
-use Prim.Native.Nat.{ℕ, zero, suc, ◌+◌, ◌*◌, ◌-◌, ◌<◌, ◌≤◌}
+use Prim.Native.Nat.{ℕ, zero, suc, ◌+◌, ◌<◌, ◌≤◌}
 use mathlib.Core.List.{List, [], ◌∷◌, ◌++◌}
 use mathlib.Core.Path.{◌≡◌, refl, sym, ap}
 use mathlib.Core.Logic.{⊎_elim}
@@ -8,7 +8,7 @@ use native.Mathlib.Nat.{zero-add, add_assoc, eq-or-lt_of_le}
 use lib.ListN.{length}
 use borrow.Author.Tests.{eq-eqb}
 use Rattle.model.specs.Words.{Shape, part, count, row, child, row_place, child_place, node_size}
-use Rattle.model.specs.Tree.{Node, Limit, Open, Below, Level, pairs_from, node_with, level, all_pairs}
+use Rattle.model.specs.Tree.{Limit, Open, Level, pairs_from, level, all_pairs}
 use Rattle.model.specs.Reading.{occ, in_pairs, nodes}
 
 -- node n has the same words in w and in v

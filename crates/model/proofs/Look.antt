@@ -1,16 +1,16 @@
 -- Lookup by the path alone is lookup among all entries, on a tree whose nodes are all sound.
-use Prim.Native.Nat.{ℕ, zero, suc, ◌+◌, ◌*◌, ◌-◌, ◌<◌, ◌≤◌}
+use Prim.Native.Nat.{ℕ, zero, suc, ◌<◌, ◌≤◌}
 use mathlib.Core.List.{List, [], ◌∷◌, ◌++◌}
-use mathlib.Core.Bool.{Bool, true, false, ◌&&◌}
-use mathlib.Core.Path.{◌≡◌, refl, sym, ap, ◌∙◌, subst}
+use mathlib.Core.Bool.{◌&&◌}
+use mathlib.Core.Path.{◌≡◌, refl, sym, ap, ◌∙◌}
 use native.Mathlib.Omega.{arith}
-use lib.Dec.{T, leb, ltb, eqb}
+use lib.Dec.{leb}
 use borrow.Author.Tests.{le-ltb, le-leb, lt-leb, leb-true, leb-false}
 use Rattle.model.specs.Words.{Shape, pick}
-use Rattle.model.specs.Tree.{Node, Limit, Open, Below, Level, next, last, over_pairs, all_pairs, Under, AllSound}
+use Rattle.model.specs.Tree.{Limit, Below, Level, next, last, over_pairs, all_pairs, Under, AllSound}
 use Rattle.model.specs.Reading.{Entry, entries}
 use Rattle.model.specs.Lookup.{under, entry_find}
-use Rattle.model.specs.Refusals.{Answer, result, refused}
+use Rattle.model.specs.Refusals.{Answer, result}
 use Rattle.model.proofs.Tests.{by_test}
 use Rattle.model.proofs.Sound.{chain, Begins, begins, sound-begins, sound-ends, sound-below, last-is}
 

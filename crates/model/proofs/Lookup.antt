@@ -1,24 +1,20 @@
 -- The lookup of 01, which reads one path, is lookup in the entries, on a root whose nodes are all sound.
-use Prim.Native.Nat.{ℕ, zero, suc, ◌+◌, ◌*◌, ◌-◌, ◌<◌, ◌≤◌}
-use mathlib.Core.List.{List, [], ◌∷◌, ◌++◌}
-use mathlib.Core.Bool.{Bool, true, false, ◌&&◌, ◌||◌, and-false}
+use Prim.Native.Nat.{ℕ, zero, suc, ◌+◌, ◌-◌, ◌<◌, ◌≤◌}
+use mathlib.Core.List.{List, []}
+use mathlib.Core.Bool.{Bool, true, false, and-false}
 use mathlib.Core.Path.{◌≡◌, refl, sym, ap, ◌∙◌, subst}
 use native.Mathlib.Omega.{arith}
-use native.Mathlib.Nat.{zero-add}
-use lib.ListN.{length}
-use lib.Dec.{T, leb, ltb, eqb, ltb→lt, eqb→eq}
-use borrow.Author.Tests.{lt-ltb, le-ltb, le-leb, lt-leb, ne_eqb, eq-eqb, ltb-true, ltb-false}
-use Rattle.model.specs.Words.{Shape, pick, part, height, count, start, end, row, child, NONE, row_limit, max_height}
-use Rattle.model.specs.Tree.{Node, node_at, Limit, Open, Below, pairs_from, sound, empty_root, root_sound, Level, level, last, over_pairs, all_pairs, Under, AllSound}
-use Rattle.model.specs.Reading.{Reached, unsound, leaf, next_row, checked, descend, root_leaf, last_not_above, to_row, entries, root_entries}
+use lib.Dec.{T, ltb, eqb, eqb→eq}
+use borrow.Author.Tests.{lt-ltb, le-ltb, le-leb, ne_eqb, eq-eqb, ltb-true, ltb-false}
+use Rattle.model.specs.Words.{Shape, pick, height, count, start, end, row, child, NONE, row_limit, max_height}
+use Rattle.model.specs.Tree.{Limit, Open, Below, pairs_from, sound, empty_root, root_sound, Level, level, last, over_pairs, Under, AllSound}
+use Rattle.model.specs.Reading.{Reached, leaf, next_row, checked, descend, root_leaf, last_not_above, to_row, entries, root_entries}
 use Rattle.model.specs.WellFormed.{EmptyRoot, SoundRoot, empty_tree, sound_tree}
 use Rattle.model.specs.Lookup.{found_in, find_in_tree, under, entry_find}
-use Rattle.model.specs.Refusals.{Answer, result, refused}
 use Rattle.model.proofs.Tests.{by_test, is_true, and_l, and_r}
 use Rattle.model.proofs.Sound.{soundly, sound-at, rows, rises}
-use Rattle.model.proofs.Frame.{length_pairs}
-use Rattle.model.proofs.Once.{own, some_pairs}
-use Rattle.model.proofs.Look.{Found, nothing, found, hit, look, Chosen, choose, from_pairs, find_at, locate, entry-find, find-look, all_left}
+use Rattle.model.proofs.Once.{some_pairs}
+use Rattle.model.proofs.Look.{nothing, found, hit, Chosen, from_pairs, find_at, locate, entry-find, find-look, all_left}
 use Rattle.model.proofs.Place.{next_at, all-at, risen, forth, choose-at, Stands, forth-stands, place_is}
 
 module _ (C : Shape) (P : ℕ) (w : List ℕ) (q : ℕ) where

@@ -1,15 +1,15 @@
 -- In a tree whose nodes are all sound each node stands once: its start tells its place in its level, and its height the
 -- level. None of them bears the free mark.
-use Prim.Native.Nat.{ℕ, zero, suc, ◌+◌, ◌*◌, ◌-◌, ◌<◌, ◌≤◌}
-use mathlib.Core.List.{List, [], ◌∷◌, ◌++◌}
+use Prim.Native.Nat.{ℕ, zero, suc, ◌+◌, ◌<◌, ◌≤◌}
+use mathlib.Core.List.{List, [], ◌∷◌}
 use mathlib.Core.Path.{◌≡◌, refl, sym, ap, subst}
 use mathlib.Core.Logic.{◌≢◌}
 use native.Mathlib.Omega.{arith}
 use lib.ListN.{length}
 use lib.Dec.{ltb, eqb}
 use borrow.Author.Tests.{eqb-true, eqb-false, ltb-true, ltb-false, ne_eqb}
-use Rattle.model.specs.Words.{Shape, part, height, count, start, end, row, child, free_mark}
-use Rattle.model.specs.Tree.{Limit, Open, Below, Level, pairs_from, level, next, last, all_pairs, Under, AllSound}
+use Rattle.model.specs.Words.{Shape, height, count, start, end, child, free_mark}
+use Rattle.model.specs.Tree.{Limit, Below, Level, pairs_from, level, next, last, all_pairs, Under, AllSound}
 use Rattle.model.specs.Reading.{occ, in_pairs, nodes}
 use Rattle.model.proofs.Tests.{by_test}
 use Rattle.model.proofs.Sound.{below_trans, sound-below, chain, Begins, begins, sound-begins, last-below, sound-ends, soundly}

@@ -1,11 +1,11 @@
 -- Stores into the positions of a path.
 use Prim.Native.Nat.{ℕ, zero, suc, ◌+◌, ◌-◌, ◌<◌, ◌≤◌}
-use mathlib.Core.List.{List, [], ◌∷◌, map}
-use mathlib.Core.Path.{◌≡◌, refl, sym, ap, ◌∙◌}
+use mathlib.Core.List.{List, [], ◌∷◌}
+use mathlib.Core.Path.{◌≡◌, refl}
 use native.Mathlib.Omega.{arith}
 use native.Mathlib.Nat.{lt_irrefl}
 use native.Mathlib.Numerals.{add-one}
-use lib.ListN.{get_or, set, length, length-map}
+use lib.ListN.{get_or, set, length}
 use lib.Seq.{get_or-set_other, get_or-set_same}
 use Rattle.model.specs.declared.path.Position.{Position}
 use Rattle.model.specs.Paths.{no_position, stack}

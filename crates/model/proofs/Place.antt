@@ -1,20 +1,20 @@
 -- The place of a row in a sound node: rows rise, so the last entry whose row is not above q is the first one that the
 -- next entry's row passes.
-use Prim.Native.Nat.{ℕ, zero, suc, ◌+◌, ◌*◌, ◌-◌, ◌<◌, ◌≤◌}
-use mathlib.Core.List.{List, [], ◌∷◌, ◌++◌}
-use mathlib.Core.Bool.{Bool, true, false, ◌&&◌}
-use mathlib.Core.Path.{◌≡◌, refl, sym, ap, ◌∙◌, subst}
+use Prim.Native.Nat.{ℕ, zero, suc, ◌+◌, ◌<◌, ◌≤◌}
+use mathlib.Core.List.{List}
+use mathlib.Core.Bool.{Bool}
+use mathlib.Core.Path.{◌≡◌, sym, subst}
 use mathlib.Core.Logic.{⊎_elim}
 use native.Mathlib.Omega.{arith}
-use native.Mathlib.Nat.{eq-or-lt_of_le, add-zero}
-use lib.Dec.{T, leb, ltb, eqb, ltb→lt}
+use native.Mathlib.Nat.{eq-or-lt_of_le}
+use lib.Dec.{T, leb, ltb, ltb→lt}
 use borrow.Author.Tests.{lt-ltb, le-ltb, le-leb, lt-leb, leb-true, leb-false}
-use Rattle.model.specs.Words.{Shape, pick, part, row, child}
-use Rattle.model.specs.Tree.{Limit, Open, Below, pairs_from, next, all_pairs}
+use Rattle.model.specs.Words.{Shape, pick, row, child}
+use Rattle.model.specs.Tree.{Limit, Below, pairs_from, next, all_pairs}
 use Rattle.model.specs.Reading.{last_not_above}
 use Rattle.model.proofs.Tests.{and_l, and_r, by_test}
 use Rattle.model.proofs.Sound.{rises}
-use Rattle.model.proofs.Look.{Chosen, choose}
+use Rattle.model.proofs.Look.{choose}
 
 module _ (C : Shape) (w : List ℕ) (n : ℕ) where
   -- entry j among entries i to i + k, and what is next for it

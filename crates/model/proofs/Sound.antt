@@ -1,12 +1,12 @@
 -- The node test, told by its rows: they begin at r, rise, and the last one passes the test of the end.
-use Prim.Native.Nat.{ℕ, zero, suc, ◌+◌, ◌*◌, ◌-◌, ◌<◌, ◌≤◌}
-use mathlib.Core.List.{List, [], ◌∷◌, ◌++◌}
-use mathlib.Core.Bool.{Bool, true, false, ◌&&◌, ◌||◌}
+use Prim.Native.Nat.{ℕ, zero, suc, ◌+◌, ◌<◌, ◌≤◌}
+use mathlib.Core.List.{List, [], ◌∷◌}
+use mathlib.Core.Bool.{Bool, false, ◌&&◌}
 use mathlib.Core.Path.{◌≡◌, refl, sym, ap, ◌∙◌, subst}
 use native.Mathlib.Omega.{arith}
 use lib.ListN.{length}
-use lib.Dec.{T, leb, ltb, eqb, ltb→lt, leb→le, eqb→eq, eqb_refl, le→leb}
-use Rattle.model.specs.Words.{Shape, part, height, count, start, end, row, child, row_limit}
+use lib.Dec.{T, leb, ltb, eqb, leb→le, eqb→eq, eqb_refl, le→leb}
+use Rattle.model.specs.Words.{Shape, count, row, child, row_limit}
 use Rattle.model.specs.Tree.{Node, pairs_from, node_with, node_at, Limit, Open, Below, rising, first_row, last_row, meets, end_sound, sound, Level, next, last, all_pairs, Under, AllSound}
 use Rattle.model.proofs.Tests.{and_l, and_r, both}
 

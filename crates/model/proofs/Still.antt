@@ -1,18 +1,18 @@
 -- Demand 1: "a refusal changes nothing it was lent", for every call, on any words and arguments. A step of a walk that
 -- gives none changes nothing either.
-use Prim.Native.Nat.{ℕ, zero, suc, ◌+◌}
+use Prim.Native.Nat.{ℕ, suc, ◌+◌}
 use mathlib.Core.List.{List, [], ◌∷◌}
 use mathlib.Core.Bool.{Bool, true, false, not, ◌&&◌, ◌||◌}
 use mathlib.Core.Path.{◌≡◌, refl, sym, ap, ◌∙◌, subst}
 use lib.ListN.{length}
 use lib.Dec.{T, leb, ltb, eqb}
-use Rattle.model.specs.Words.{store_shape, Arrangement, Shape, shape, pick, sized, fill, pool, root, free_head, free_count, part, height, count, start, end, row_limit, max_height}
+use Rattle.model.specs.Words.{store_shape, Arrangement, Shape, shape, pick, sized, fill, pool, root, free_head, free_count, height, count, start, end, row_limit, max_height}
 use Rattle.model.specs.Tree.{Level, level, empty_root, root_sound}
 use Rattle.model.specs.Reading as Reading
 use Rattle.model.specs.Reading.{Fault, clear, at, unless_bad, first_bad, root_visits, page_ids, root_entries, root_nodes, Reached, leaf, root_leaf, to_row, to_right}
 use Rattle.model.specs.Refusals.{Answer, result, refused, damaged, header_ok, when_open, Outcome}
 use Rattle.model.specs.Create.{new_store, create}
-use Rattle.model.specs.Append.{Room, append_start, room, chain_sound, append_at, append_to, insert_row_page}
+use Rattle.model.specs.Append.{append_start, room, chain_sound, append_at, append_to, insert_row_page}
 use Rattle.model.specs.Cut.{cut, went_pairs, went}
 use Rattle.model.specs.Prune as Prune
 use Rattle.model.specs.Prune.{Scan, stopped, on, Copies, copies, root_copies, prune_tree, prune_with, prune_scanned, prune_root, prune_checkpoint_prefix}

@@ -1,5 +1,5 @@
 -- Tests and the facts they stand for.
-use mathlib.Core.Bool.{Bool, true, false, ◌&&◌, ◌||◌}
+use mathlib.Core.Bool.{Bool, true, false, ◌&&◌}
 use mathlib.Core.Path.{◌≡◌, refl, sym, subst}
 use lib.Dec.{T}
 

@@ -1,5 +1,5 @@
 -- What the shared writes leave: which words are new, and that all others stay.
-use Prim.Native.Nat.{ℕ, zero, suc, ◌+◌, ◌*◌, ◌-◌, ◌<◌, ◌≤◌}
+use Prim.Native.Nat.{ℕ, zero, suc, ◌+◌, ◌<◌, ◌≤◌}
 use mathlib.Core.List.{List, [], ◌∷◌, ◌++◌}
 use mathlib.Core.Path.{◌≡◌, refl, sym, ap, ◌∙◌, subst}
 use mathlib.Core.Logic.{⊎_elim, ◌≢◌}
@@ -7,15 +7,12 @@ use native.Mathlib.Omega.{arith}
 use native.Mathlib.Nat.{add-zero, eq-or-lt_of_le}
 use lib.ListN.{set, length, length-set}
 use lib.Seq.{get_or-set_same, get_or-set_other}
-use lib.Dec.{eqb}
-use borrow.Author.Tests.{eqb-true, eqb-false, eq-eqb}
-use Rattle.model.specs.Words.{Shape, word, free_head, free_count, part, put, height, count, start, end, row, child, row_place, child_place, node_size, free_mark, Header, emptied, added, copy_from, copied, freed, free_all}
+use Rattle.model.specs.Words.{Shape, word, free_head, free_count, part, put, height, count, row, child, row_place, child_place, node_size, free_mark, Header, emptied, added, copy_from, copied, freed, free_all}
 use Rattle.model.specs.Tree.{pairs_from}
 use Rattle.model.specs.Reading.{occ}
 use Rattle.model.specs.WellFormed.{Chain}
-use Rattle.model.proofs.Tests.{by_test}
 use Rattle.model.proofs.Words.{put_same, put_other, put-node, put_word, put-length, set-part, put-header, header_at}
-use Rattle.model.proofs.Frame.{Same, occ-append, occ_self, occ_nil}
+use Rattle.model.proofs.Frame.{Same, occ-append, occ_self}
 
 -- Members of a list -------------------------------------------------------------------------------------
 

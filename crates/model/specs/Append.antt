@@ -1,7 +1,6 @@
 -- 01, "Append (`insert_row_page`)".
-use Rattle.std.specs.Prelude.{ℕ, zero, suc, ◌+◌, ◌*◌, ◌-◌, List, [], ◌∷◌, ◌++◌, Bool, true, false, ◌&&◌, ◌||◌, length, set, leb, ltb, eqb}
-use Rattle.model.specs.Words.{store_shape, Arrangement, Shape, pick, word, pool, root, free_head, free_count, part, put, added, copied, row_place, child_place, height, count, start, end, row, child, NONE, row_limit, free_mark, max_height}
-use Rattle.model.specs.Tree.{Limit, Open, Below}
+use Rattle.std.specs.Prelude.{ℕ, zero, suc, ◌+◌, ◌-◌, List, [], ◌∷◌, ◌++◌, Bool, true, ◌&&◌, ◌||◌, length, set, leb, ltb, eqb}
+use Rattle.model.specs.Words.{store_shape, Arrangement, Shape, pick, pool, root, free_head, free_count, put, added, copied, row_place, child_place, height, count, start, end, child, NONE, row_limit, free_mark, max_height}
 use Rattle.model.specs.Reading.{Reached, unsound, leaf, root_leaf, to_right, occ}
 use Rattle.model.specs.Refusals.{Answer, result, refused, damaged, Outcome, when_open}
 

@@ -1,8 +1,8 @@
 -- 01, "Create (`new`)": "Node 0 becomes an empty root leaf at the given start; the chain is 1, 2, … P − 1."
-use Rattle.std.specs.Prelude.{ℕ, zero, suc, ◌+◌, ◌*◌, ◌-◌, List, [], ◌∷◌, Bool, true, false, ◌&&◌, length, leb, ltb, eqb}
+use Rattle.std.specs.Prelude.{ℕ, zero, suc, ◌+◌, ◌-◌, List, [], ◌∷◌, length, leb}
 use Rattle.std.proofs.lemmas.List.Edits.{sets}
 use Rattle.model.specs.Words.{Arrangement, Shape, shape, pick, put, emptied, sized, free_mark, row_limit}
-use Rattle.model.specs.Refusals.{Answer, result, refused, Outcome}
+use Rattle.model.specs.Refusals.{result, refused, Outcome}
 
 -- nodes n, n + 1, …, k of them, are free, each before the next number
 unfoldable pub chained : Shape → List ℕ → ℕ → ℕ → List ℕ

@@ -1,5 +1,5 @@
 -- 01, "Prune": the cut of a tree at row e. "What lies below goes."
-use Rattle.std.specs.Prelude.{ℕ, zero, suc, ◌+◌, ◌*◌, ◌-◌, ◌<◌, ◌≤◌, List, [], ◌∷◌, ◌++◌, Bool, true, false, ◌&&◌, ◌||◌, length, leb, ltb, eqb}
+use Rattle.std.specs.Prelude.{ℕ, zero, suc, ◌-◌, List, [], ◌∷◌, ◌++◌, length, ltb}
 use Rattle.model.specs.Words.{pick}
 use Rattle.model.specs.Tree.{Node, Level}
 

@@ -1,7 +1,7 @@
 -- 01, "Node words": "The full check accepts exactly these, and reports entries, tree nodes and free nodes."
 -- 01, "Refusals": "The full check gives 2 for all else: unsound nodes, then a branch whose end is wrong, then 65,535."
-use Rattle.std.specs.Prelude.{ℕ, zero, suc, ◌+◌, ◌*◌, ◌-◌, List, [], ◌∷◌, Bool, true, false, ◌&&◌, length, leb, ltb, eqb}
-use Rattle.model.specs.Words.{store_shape, Arrangement, Shape, pick, pool, root, free_head, free_count, part, height, count, free_mark}
+use Rattle.std.specs.Prelude.{ℕ, zero, suc, ◌+◌, List, [], ◌∷◌, Bool, true, false, ◌&&◌, length, ltb, eqb}
+use Rattle.model.specs.Words.{store_shape, Arrangement, Shape, pick, pool, root, free_head, free_count, height, count, free_mark}
 use Rattle.model.specs.Reading.{unless_bad, first_bad, root_visits, root_entries, root_nodes}
 use Rattle.model.specs.Refusals.{Answer, result, refused, damaged, when_open}
 

@@ -1,10 +1,9 @@
 -- 01, "Leaf walk (`RowPageIndexMemCursor`)".
-use Rattle.std.specs.Prelude.{ℕ, zero, suc, ◌+◌, ◌*◌, ◌-◌, List, [], ◌∷◌, Bool, true, false, length, leb, ltb, eqb}
-use Rattle.model.specs.Words.{store_shape, Arrangement, Shape, pick, fill, pool, root, part, height, count, start, end, row, child}
+use Rattle.std.specs.Prelude.{ℕ, zero, suc, ◌+◌, List, [], ◌∷◌, Bool, true, false, length, ltb}
+use Rattle.model.specs.Words.{store_shape, Arrangement, Shape, pick, fill, pool, root, count, start, end, row, child}
 use Rattle.model.specs.Tree.{Limit, Open, Below}
-use Rattle.model.specs.Reading.{Reached, unsound, leaf, root_leaf, last_not_above, to_row}
+use Rattle.model.specs.Reading.{Reached, unsound, leaf, root_leaf, to_row}
 use Rattle.model.specs.Refusals.{Answer, result, refused, when_open}
-use Rattle.model.specs.declared.id.RowID.{RowID}
 use Rattle.model.specs.declared.node.PageEntry.{PageEntry}
 use Rattle.model.specs.declared.cursor.RowPageIndexMemCursor.{RowPageIndexMemCursor}
 

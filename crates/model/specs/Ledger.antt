@@ -1,8 +1,8 @@
 -- The plain ledger of row ranges: a start row, and the end and page of each range in turn. A range begins where the one
 -- before it ends. What the calls of 01 mean to someone who has never seen a tree.
-use Rattle.std.specs.Prelude.{ℕ, zero, suc, ◌+◌, List, [], ◌∷◌, ◌++◌, Bool, true, false, ◌&&◌, ◌||◌, length, leb, ltb, eqb}
-use Rattle.model.specs.Words.{pick, row_limit}
-use Rattle.model.specs.Refusals.{Answer, result, refused}
+use Rattle.std.specs.Prelude.{ℕ, ◌+◌, List, [], ◌∷◌, ◌++◌, ◌&&◌, ◌||◌, length, leb, ltb, eqb}
+use Rattle.model.specs.Words.{pick}
+use Rattle.model.specs.Refusals.{Answer, result}
 
 pub record Range : Type 0 where
   pub end : ℕ

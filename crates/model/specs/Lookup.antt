@@ -1,9 +1,9 @@
 -- 01, "Lookup (`try_find_row`)": "In each branch, the last entry whose row is not above the sought one; in the leaf
 -- likewise, and found only if the row is below the leaf's end. Otherwise none."
-use Rattle.std.specs.Prelude.{ℕ, zero, suc, ◌+◌, ◌-◌, List, [], ◌∷◌, Bool, true, false, ◌&&◌, leb, ltb, eqb}
-use Rattle.model.specs.Words.{store_shape, Arrangement, Shape, pick, pool, root, part, height, count, start, end, row, child}
+use Rattle.std.specs.Prelude.{ℕ, List, [], ◌∷◌, Bool, true, ◌&&◌, leb, ltb}
+use Rattle.model.specs.Words.{store_shape, Arrangement, Shape, pick, pool, root, count, start, end, child}
 use Rattle.model.specs.Tree.{Limit, Open, Below, root_sound}
-use Rattle.model.specs.Reading.{Entry, Reached, unsound, leaf, root_leaf, last_not_above, to_row}
+use Rattle.model.specs.Reading.{Entry, Reached, unsound, leaf, root_leaf, to_row}
 use Rattle.model.specs.Refusals.{Answer, result, refused, when_open}
 
 unfoldable pub found_in : Shape → List ℕ → ℕ → Reached → Answer

@@ -1,9 +1,9 @@
 -- 01, "Prune (`prune_checkpoint_prefix`)".
-use Rattle.std.specs.Prelude.{ℕ, zero, suc, ◌+◌, ◌*◌, ◌-◌, List, [], ◌∷◌, ◌++◌, reverse, Bool, true, false, ◌&&◌, ◌||◌, length, leb, ltb, eqb}
-use Rattle.model.specs.Words.{store_shape, Arrangement, Shape, pick, pool, root, free_count, part, put, emptied, copied, free_all, row_place, child_place, height, count, start, end, row, child}
-use Rattle.model.specs.Tree.{Node, Level, level, Limit, Open, Below, sound, empty_root, root_sound}
+use Rattle.std.specs.Prelude.{ℕ, zero, suc, ◌+◌, ◌-◌, List, [], ◌∷◌, ◌++◌, reverse, false, ◌||◌, length, leb, ltb, eqb}
+use Rattle.model.specs.Words.{store_shape, Arrangement, Shape, pick, pool, root, free_count, put, emptied, copied, free_all, row_place, child_place, height, count, start, end, row, child}
+use Rattle.model.specs.Tree.{Level, level, Open, sound, empty_root, root_sound}
 use Rattle.model.specs.Reading.{Visit, Enter, Leave, Bad, visits}
-use Rattle.model.specs.Cut.{Rest, gone, stays, if_gone, cut_pairs, trim, cut, went_pairs, went, trims, kept}
+use Rattle.model.specs.Cut.{if_gone, cut_pairs, trim, cut, went_pairs, went, trims, kept}
 use Rattle.model.specs.Refusals.{Answer, result, refused, damaged, Outcome, when_open}
 
 -- The writes ---------------------------------------------------------------------------------------------

@@ -1,8 +1,8 @@
 -- 01, "Node words" and "Refusals": what is read, in which order. A node comes first, then its children left to right,
 -- each with all below it.
-use Rattle.std.specs.Prelude.{ℕ, zero, suc, ◌+◌, ◌*◌, ◌-◌, ◌<◌, ◌≤◌, List, [], ◌∷◌, ◌++◌, map, Bool, true, false, ◌&&◌, ◌||◌, length, T, leb, ltb, eqb}
-use Rattle.model.specs.Words.{Shape, pick, part, height, count, start, end, row, child, root, capacity, pool, NONE, max_height}
-use Rattle.model.specs.Tree.{Node, node_at, Limit, Open, Below, sound, empty_root, Level, level, next, last, over_pairs}
+use Rattle.std.specs.Prelude.{ℕ, zero, suc, ◌+◌, ◌-◌, List, [], ◌∷◌, ◌++◌, map, Bool, true, ◌&&◌, ◌||◌, leb, ltb, eqb}
+use Rattle.model.specs.Words.{Shape, pick, height, count, start, row, child, NONE, max_height}
+use Rattle.model.specs.Tree.{Node, node_at, Limit, Open, Below, sound, empty_root, Level, level, last, over_pairs}
 
 -- The whole tree -----------------------------------------------------------------------------------------
 

@@ -1,22 +1,16 @@
 -- 01, "Refusals, a number and a detail": what a call answers, and the checks that every call but create begins with.
-use Rattle.std.specs.Prelude.{ℕ, zero, suc, ◌+◌, ◌*◌, List, [], ◌∷◌, Bool, true, false, ◌&&◌, length, leb, ltb, eqb}
-use Rattle.model.specs.Words.{pick, word, capacity, pool, root, free_head, free_count, sized}
-use Rattle.model.specs.declared.id.RowID.{RowID}
-use Rattle.model.specs.declared.id.PageID.{PageID}
-use Rattle.model.specs.declared.id.NodeNo.{NodeNo}
+use Rattle.std.specs.Prelude.{ℕ, List, [], ◌∷◌, Bool, ◌&&◌, length, leb, eqb}
+use Rattle.model.specs.Words.{pick, capacity, pool, root, free_head, free_count, sized}
 use Rattle.model.specs.declared.answer.Refusal.{Refusal}
 use Rattle.model.specs.declared.answer.Refusal.TheVariants as R
 use Rattle.model.specs.declared.answer.Created.{Created}
 use Rattle.model.specs.declared.answer.Created.TheVariants as Cr
 use Rattle.model.specs.declared.answer.RowLocation.{RowLocation}
 use Rattle.model.specs.declared.answer.RowLocation.TheVariants as L
-use Rattle.model.specs.declared.answer.RowPageIndexInsert.{RowPageIndexInsert}
 use Rattle.model.specs.declared.answer.Inserted.{Inserted}
 use Rattle.model.specs.declared.answer.Inserted.TheVariants as I
-use Rattle.model.specs.declared.answer.RowPagePrefixPrune.{RowPagePrefixPrune}
 use Rattle.model.specs.declared.answer.Pruned.{Pruned}
 use Rattle.model.specs.declared.answer.Pruned.TheVariants as Pr
-use Rattle.model.specs.declared.answer.Leaf.{Leaf}
 use Rattle.model.specs.declared.answer.NextLeaf.{NextLeaf}
 use Rattle.model.specs.declared.answer.NextLeaf.TheVariants as N
 use Rattle.model.specs.declared.answer.Destroyed.{Destroyed}

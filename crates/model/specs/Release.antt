@@ -1,5 +1,5 @@
 -- 01, "Release (`destroy`, `destroy_empty`)".
-use Rattle.std.specs.Prelude.{ℕ, zero, suc, ◌+◌, ◌*◌, ◌-◌, List, [], ◌∷◌, ◌++◌, Bool, true, false, ◌&&◌, length, set, leb, ltb, eqb}
+use Rattle.std.specs.Prelude.{ℕ, ◌+◌, List, [], ◌∷◌, false, length, set, leb, ltb}
 use Rattle.model.specs.Words.{store_shape, Arrangement, Shape, pick, fill, free_all, pool, root, free_count}
 use Rattle.model.specs.Tree.{empty_root, root_sound}
 use Rattle.model.specs.Reading.{Fault, clear, at, unless_bad, first_bad, root_visits, Entry, page_ids, root_entries, root_nodes}

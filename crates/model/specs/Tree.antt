@@ -1,6 +1,6 @@
 -- 01, "Node words": the node test, and the tree that any words hold, by its height.
-use Rattle.std.specs.Prelude.{ℕ, zero, suc, ◌+◌, ◌*◌, ◌-◌, ◌<◌, ◌≤◌, List, [], ◌∷◌, ◌++◌, Bool, true, false, ◌&&◌, ◌||◌, length, T, leb, ltb, eqb}
-use Rattle.model.specs.Words.{Shape, pick, part, height, count, start, end, row, child, NONE, row_limit, max_height}
+use Rattle.std.specs.Prelude.{ℕ, zero, suc, ◌+◌, ◌<◌, List, [], ◌∷◌, ◌++◌, Bool, true, ◌&&◌, ◌||◌, length, T, leb, ltb, eqb}
+use Rattle.model.specs.Words.{Shape, height, count, start, end, row, child, NONE, row_limit, max_height}
 
 -- a node; a pair is a row and what its number leads to
 pub record Node (K : Type 0) : Type 0 where

@@ -1,9 +1,9 @@
 -- 01, "Node words": "A store is well-formed when it fits its length, is open, all nodes from the root are sound, each
 -- node is either reached once or in the chain once, the chain has free-count nodes and ends with P, and each branch's
 -- end is NONE or, off the right edge, the end of its last leaf."
-use Rattle.std.specs.Prelude.{ℕ, zero, suc, ◌+◌, ◌*◌, ◌-◌, ◌<◌, ◌≤◌, List, [], ◌∷◌, ◌++◌, ◌≡◌, ◌⊎◌, length}
-use Rattle.model.specs.Words.{store_shape, Arrangement, Shape, word, pool, root, free_head, free_count, part, height, count, start, end, Header, NONE, row_limit, free_mark, max_height}
-use Rattle.model.specs.Tree.{Node, Limit, Open, Below, Level, level, last, all_pairs, AllSound}
+use Rattle.std.specs.Prelude.{ℕ, zero, suc, ◌+◌, ◌<◌, ◌≤◌, List, [], ◌∷◌, ◌≡◌, ◌⊎◌, length}
+use Rattle.model.specs.Words.{store_shape, Arrangement, Shape, pool, root, free_head, free_count, height, count, start, end, Header, NONE, row_limit, free_mark, max_height}
+use Rattle.model.specs.Tree.{Limit, Open, Below, Level, level, last, all_pairs, AllSound}
 use Rattle.model.specs.Reading.{occ, nodes}
 
 -- the chain from number n is the list: "A free node has height 2^32 − 1 and the next free number, or P, as its count."

@@ -1,21 +1,19 @@
 -- The place of a row in a node whose rows rise.
 use Prim.Native.Nat.{ℕ, zero, suc, ◌+◌, ◌-◌, ◌<◌, ◌≤◌}
-use mathlib.Core.List.{List, [], ◌∷◌}
-use mathlib.Core.Bool.{Bool, true, false, ◌&&◌}
-use mathlib.Core.Path.{◌≡◌, refl, sym, ap, ◌∙◌, subst}
+use mathlib.Core.List.{List}
+use mathlib.Core.Path.{◌≡◌, refl, sym, ◌∙◌, subst}
 use mathlib.Core.Logic.{⊎_elim, ◌⊎◌, inl, inr}
 use native.Mathlib.Omega.{arith}
 use native.Mathlib.Nat.{eq-or-lt_of_le}
-use lib.Dec.{T, leb, ltb}
+use lib.Dec.{T, leb}
 use borrow.Author.Tests.{lt-leb, leb-true, leb-false}
-use Rattle.model.specs.Words.{Shape, part, row, child}
+use Rattle.model.specs.Words.{Shape, row}
 use Rattle.model.specs.Tree.{pairs_from, rising}
 use Rattle.model.specs.Reading.{last_not_above}
-use Rattle.model.proofs.Tests.{by_test, holds, is_true}
-use Rattle.model.proofs.Sound.{rises}
+use Rattle.model.proofs.Tests.{by_test}
 use Rattle.model.proofs.Place.{risen, last-at}
 use Rattle.node_place.specs.Place.{LiesIn}
-use Rattle.node_test.proofs.Rows.{yes, rest, rise-all}
+use Rattle.node_test.proofs.Rows.{yes, rise-all}
 
 module _ (C : Shape) (w : List ℕ) (n k : ℕ) (some : 1 ≤ k) (up : T (rising (pairs_from C w (λ (x : ℕ). x) n 0 k))) where
   pub rise : (a c : ℕ) → a < c → c < k → row C w n a < row C w n c

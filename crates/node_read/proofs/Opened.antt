@@ -1,13 +1,13 @@
 -- The three answers of the header test.
 use Prim.Native.Nat.{ℕ, ◌≤◌, ◌<◌}
 use mathlib.Core.List.{List}
-use mathlib.Core.Bool.{Bool, true, false}
-use mathlib.Core.Path.{◌≡◌, refl}
+use mathlib.Core.Bool.{true, false}
+use mathlib.Core.Path.{◌≡◌}
 use native.Mathlib.Omega.{arith}
 use lib.ListN.{length}
 use lib.Dec.{eqb}
 use borrow.Author.Tests.{eq-eqb, ne_eqb, eqb-false}
-use Rattle.model.specs.Words.{pick, capacity, pool, root, free_head, free_count, Header}
+use Rattle.model.specs.Words.{capacity, pool, root, free_head, free_count, Header}
 use Rattle.model.specs.Refusals.{Answer, header_ok, when_open, refusal}
 use Rattle.model.specs.declared.answer.Refusal.{Refusal}
 use Rattle.model.proofs.Tests.{by_test}

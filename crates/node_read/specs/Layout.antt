@@ -1,6 +1,6 @@
 -- What the reading functions answer, on words.
-use Rattle.std.specs.Prelude.{ℕ, zero, suc, ◌+◌, ◌*◌, List, [], ◌∷◌, eqb}
-use Rattle.model.specs.Words.{lent, Shape, shape, pick, capacity, pool, root, free_head, free_count, part, height, count, start, end, Header}
+use Rattle.std.specs.Prelude.{ℕ, List, eqb}
+use Rattle.model.specs.Words.{lent, Shape, shape, pick, capacity, pool, root, free_head, free_count, height, count, start, end, Header}
 use Rattle.model.specs.Refusals.{header_ok}
 use Rattle.model.specs.declared.node.RowPageIndexNodeHeader.{RowPageIndexNodeHeader}
 use Rattle.model.specs.declared.answer.Refusal.TheVariants.{Closed, Unsound}

@@ -1,6 +1,6 @@
 -- The node test as code answers it.
-use Rattle.std.specs.Prelude.{ℕ, zero, suc, ◌+◌, List, [], ◌∷◌, ltb, eqb}
-use Rattle.model.specs.Words.{Shape, pick, part, count, child}
+use Rattle.std.specs.Prelude.{ℕ, zero, suc, ◌+◌, List, ltb, eqb}
+use Rattle.model.specs.Words.{Shape, pick, count, child}
 use Rattle.model.specs.Tree.{node_at, sound}
 use Rattle.model.specs.Tree as Tree
 use Rattle.node_test.specs.declared.Limit.{Limit}

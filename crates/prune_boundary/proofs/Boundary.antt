@@ -14,7 +14,7 @@ use Rattle.model.specs.Tree.{Limit, Open, Below, Level, pairs_from, level, next,
 use Rattle.model.specs.Cut.{gone, stays, if_gone, keep, cut_pairs, trim, cut, went_pairs, went, trims_pairs, trims}
 use Rattle.model.specs.declared.path.Position.{Position}
 use Rattle.model.proofs.Tests.{by_test, and_l, and_r}
-use Rattle.model.proofs.Sound.{chain, sound-below, soundly, rows, rises, begins, sound-ends}
+use Rattle.model.proofs.Sound.{chain, sound-below, soundly, rows, rises, sound-ends}
 use Rattle.model.proofs.Place.{risen}
 use Rattle.model.proofs.Frame.{length_pairs}
 use Rattle.model.proofs.Writes.{pairs_snoc}

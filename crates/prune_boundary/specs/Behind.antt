@@ -1,7 +1,7 @@
 -- What a reading has left behind: on each node of its path the children before the one that it is in are sound, with all
 -- below them.
-use Rattle.std.specs.Prelude.{ℕ, zero, suc, ◌+◌, ◌-◌, ◌<◌, ◌≤◌, List, [], ◌∷◌, ◌≡◌, T, ltb}
-use Rattle.model.specs.Words.{Shape, pick, part, height, count, start, end, row, child}
+use Rattle.std.specs.Prelude.{ℕ, suc, ◌-◌, ◌<◌, ◌≤◌, List, [], ◌∷◌, ◌≡◌, T, ltb}
+use Rattle.model.specs.Words.{Shape, pick, count, start, end, row, child}
 use Rattle.model.specs.Tree.{Limit, Below, sound, level, last, pairs_from, all_pairs, AllSound}
 use Rattle.model.specs.Paths.{trail}
 use Rattle.model.specs.declared.path.Position.{Position}

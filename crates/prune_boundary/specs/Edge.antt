@@ -1,5 +1,5 @@
 -- The boundary of a prune to row e: the nodes that stay but lose entries, and what goes on their left.
-use Rattle.std.specs.Prelude.{ℕ, zero, suc, ◌+◌, ◌-◌, ◌<◌, ◌≤◌, List, [], ◌∷◌, ◌++◌, ◌≡◌, length, get_or, ltb}
+use Rattle.std.specs.Prelude.{ℕ, suc, ◌+◌, ◌-◌, ◌<◌, ◌≤◌, List, [], ◌∷◌, ◌++◌, ◌≡◌, length, get_or, ltb}
 use Rattle.model.specs.Words.{Shape, pick, height, count, start}
 use Rattle.model.specs.Tree.{Limit, Open, Below, Level, level, pairs_from}
 use Rattle.model.specs.Reading.{Visit, in_pairs, nodes}

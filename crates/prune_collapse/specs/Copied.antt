@@ -5,7 +5,6 @@ use Rattle.model.specs.Tree.{Open, node_at, sound}
 use Rattle.model.specs.Reading.{root_tree}
 use Rattle.model.specs.Cut.{trims}
 use Rattle.model.specs.Prune as Prune
-use Rattle.model.specs.declared.id.NodeNo.{NodeNo}
 use Rattle.model.specs.declared.path.Path.{Path}
 use Rattle.prune_boundary.specs.Trims.{trims_of}
 use Rattle.node_read.specs.Layout.{shape_of}

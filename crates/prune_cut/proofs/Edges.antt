@@ -10,7 +10,7 @@ use borrow.Author.Tests.{le-leb, lt-leb}
 use Rattle.model.specs.Words.{Shape, free_count, free_all, emptied, height, count, start}
 use Rattle.model.specs.Tree.{Open, Level, level}
 use Rattle.model.specs.Reading.{occ, root_nodes}
-use Rattle.model.specs.Cut.{gone, stays, if_gone, cut_pairs, trim, cut, went, trims}
+use Rattle.model.specs.Cut.{if_gone, cut_pairs, trim, cut, trims}
 use Rattle.model.specs.Refusals.{result, refused, damaged}
 use Rattle.model.specs.Prune.{Copies, unsound, copies, prune_tree, copies_from, root_copies, prune_with}
 use Rattle.model.specs.Paths.{last_of, entered}

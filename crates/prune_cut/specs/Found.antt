@@ -1,5 +1,5 @@
 -- An edge that was found in a store whose root passed its test, and what 01 asks of it.
-use Rattle.std.specs.Prelude.{ℕ, suc, ◌+◌, ◌<◌, ◌≤◌, List, [], ◌∷◌, ◌++◌, reverse, true, ◌≡◌, length, leb, eqb}
+use Rattle.std.specs.Prelude.{ℕ, ◌+◌, ◌<◌, ◌≤◌, List, [], ◌∷◌, ◌++◌, reverse, true, ◌≡◌, length, leb, eqb}
 use Rattle.model.specs.Words.{Shape, pick, free_count, free_all, emptied, height, count, start, Header}
 use Rattle.model.specs.Tree.{Open, node_at, sound, empty_root, root_sound}
 use Rattle.model.specs.Reading.{root_tree}

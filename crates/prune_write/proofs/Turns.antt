@@ -1,19 +1,19 @@
 -- Trimming, copying and freeing, one node at a time.
 use Prim.Native.Nat.{ℕ, zero, suc, ◌+◌, ◌-◌, ◌<◌, ◌≤◌}
 use mathlib.Core.List.{List, [], ◌∷◌, ◌++◌, reverse, reverse-append}
-use mathlib.Core.Path.{◌≡◌, refl, sym, ap, ◌∙◌, subst}
+use mathlib.Core.Path.{◌≡◌, ap, ◌∙◌}
 use mathlib.Core.Logic.{◌≢◌}
 use native.Mathlib.Omega.{arith}
 use native.Mathlib.Nat.{add-zero, zero-add}
-use lib.ListN.{get_or, length}
-use Rattle.model.specs.Words.{Shape, part, count, freed, free_all, Header}
-use Rattle.model.specs.Prune.{trimmed, trim_all, copy_all}
+use lib.ListN.{get_or}
+use Rattle.model.specs.Words.{Shape, count, freed, free_all, Header}
+use Rattle.model.specs.Prune.{trimmed}
 use Rattle.model.specs.Words.{copied}
 use Rattle.model.specs.Paths.{no_position}
 use Rattle.model.specs.declared.id.NodeNo.{NodeNo}
 use Rattle.model.specs.declared.path.Position.{Position}
 use Rattle.model.proofs.Words.{header_at}
-use Rattle.model.proofs.Writes.{copied-length, freed-length, freed-count}
+use Rattle.model.proofs.Writes.{copied-length, freed-length}
 use Rattle.law_prune.proofs.Trim.{trimmed-header, trimmed-node}
 use Rattle.node_chain.specs.Chain.{listed}
 use Rattle.prune_boundary.specs.Trims.{trims_from, Apart, Trims}

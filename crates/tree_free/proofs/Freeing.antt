@@ -1,6 +1,6 @@
 -- Nodes freed as they are left. The walk is told in the words w before the first was freed: of them each turn reads nodes
 -- that were not freed yet, and no soundness test is needed.
-use Prim.Native.Nat.{ℕ, suc, ◌+◌, ◌-◌, ◌<◌, ◌≤◌}
+use Prim.Native.Nat.{ℕ, suc, ◌+◌, ◌<◌, ◌≤◌}
 use mathlib.Core.List.{List, [], ◌∷◌, ◌++◌}
 use mathlib.Core.Bool.{false}
 use mathlib.Core.Path.{◌≡◌, refl, sym, ap, ◌∙◌, subst}
@@ -8,7 +8,7 @@ use native.Mathlib.Omega.{arith}
 use lib.ListN.{length}
 use lib.Dec.{T, ltb}
 use borrow.Author.Tests.{ltb-true, ltb-false}
-use Rattle.model.specs.Words.{Shape, height, count, child, child_place, free_count, Header, freed, free_all}
+use Rattle.model.specs.Words.{Shape, count, free_count, Header, freed, free_all}
 use Rattle.model.specs.Reading.{Visit, Enter, Leave, Bad, occ}
 use Rattle.model.specs.Paths.{trail, last_of, above}
 use Rattle.model.specs.declared.path.Position.{Position}
@@ -19,15 +19,15 @@ use Rattle.model.proofs.Paths.{stack_pop}
 use Rattle.model.proofs.Frame.{Same, occ_self}
 use Rattle.model.proofs.Writes.{occ_cons, freed-length, freed-keeps, freed-count}
 use Rattle.law_formed.specs.Visits.{clean, lefts, enters}
-use Rattle.tree_turn.specs.Left.{left, ValidPath, Moves, on_path}
-use Rattle.tree_turn.specs.Turn.{has_child, stepping}
+use Rattle.tree_turn.specs.Left.{left, ValidPath, on_path}
+use Rattle.tree_turn.specs.Turn.{stepping}
 use Rattle.tree_turn.specs.declared.turn.Step.{Step}
 use Rattle.tree_turn.specs.declared.turn.Step.TheVariants.{Up, Down}
-use Rattle.tree_turn.proofs.Valid.{Top, valid-top}
+use Rattle.tree_turn.proofs.Valid.{valid-top}
 use Rattle.tree_turn.proofs.Rest.{left-none}
-use Rattle.tree_turn.proofs.InPlace.{popped, turned_path, entered_path, entered-trail, entered-length}
+use Rattle.tree_turn.proofs.InPlace.{popped, entered_path, entered-trail, entered-length}
 use Rattle.tree_turn.proofs.Branch.{step_same}
-use Rattle.tree_turn.proofs.Turns.{falls, Sure, at_top, step-up, step_room, step-short, step_down}
+use Rattle.tree_turn.proofs.Turns.{falls, Sure, step-up, step_room, step-short, step_down}
 
 -- What holds at a turn: j of k nodes are freed in words s, and W are the words at the end. The visits seen are the next ones.
 pub record Freeable (C : Shape) (P : ℕ) (w W : List ℕ) (k j : ℕ) (s : List ℕ) (p : Path) : Type 0 where

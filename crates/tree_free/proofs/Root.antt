@@ -19,7 +19,7 @@ use Rattle.model.proofs.Writes.{occ_cons}
 use Rattle.law_formed.specs.Visits.{clean, lefts, enters}
 use Rattle.law_formed.proofs.Clean.{sound-clean}
 use Rattle.law_formed.proofs.Tally.{left-nodes, enters-nodes}
-use Rattle.tree_turn.specs.Left.{bound, rest, Valid, left, on_path}
+use Rattle.tree_turn.specs.Left.{bound, rest, Valid, on_path}
 use Rattle.tree_turn.proofs.Valid.{valid-path}
 use Rattle.tree_turn.proofs.Rest.{child-good, rest_end, valid-entered}
 use Rattle.tree_turn.proofs.InPlace.{rooted-left}

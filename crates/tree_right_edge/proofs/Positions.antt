@@ -9,7 +9,7 @@ use lib.ListN.{get_or}
 use lib.Seq.{get_or-take}
 use Rattle.model.specs.Words.{Shape, height, count, child}
 use Rattle.model.specs.Tree.{Open}
-use Rattle.model.specs.Reading.{leaf, to_right}
+use Rattle.model.specs.Reading.{to_right}
 use Rattle.model.specs.Append.{Room, room}
 use Rattle.model.specs.Paths.{no_position}
 use Rattle.model.specs.declared.path.Position.{Position}

@@ -11,7 +11,7 @@ use lib.Dec.{leb, ltb}
 use borrow.Author.Tests.{lt-ltb, le-ltb, leb-true, leb-false, not-true, not-false}
 use Rattle.model.specs.Words.{Shape, pick, count, row, child}
 use Rattle.model.specs.Tree.{Limit, Open, node_at, sound}
-use Rattle.model.specs.Reading.{unsound, leaf, next_row, descend, to_right}
+use Rattle.model.specs.Reading.{unsound, next_row, descend, to_right}
 use Rattle.model.specs.Append.{Room, room_from}
 use Rattle.model.specs.declared.path.Position.{Position}
 use Rattle.node_test.proofs.Rows.{facts}

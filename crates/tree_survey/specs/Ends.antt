@@ -4,7 +4,7 @@ use Rattle.model.specs.Words.{Shape, pick, height, end}
 use Rattle.model.specs.Tree.{Limit}
 use Rattle.model.specs.Reading.{end_fits}
 use Rattle.tree_tally.specs.declared.Survey.{Survey}
-use Rattle.tree_tally.specs.declared.Survey.TheVariants.{Unsound, Counted}
+use Rattle.tree_tally.specs.declared.Survey.TheVariants.{Unsound}
 
 -- the first branch whose end is wrong, once node n was looked at; m is the one before, P where there is none
 unfoldable pub wrong_end : Shape → ℕ → List ℕ → ℕ → Limit → ℕ → ℕ

@@ -1,6 +1,6 @@
 -- Counting over the visits of a tree.
-use Rattle.std.specs.Prelude.{ℕ, zero, suc, ◌+◌, ◌^◌, List, [], ◌∷◌, ltb, eqb}
-use Rattle.model.specs.Words.{Shape, pick, part, height, count}
+use Rattle.std.specs.Prelude.{ℕ, ◌+◌, ◌^◌, List, [], ◌∷◌, ltb, eqb}
+use Rattle.model.specs.Words.{Shape, pick, height, count}
 use Rattle.model.specs.Reading.{Visit, Enter, Leave, Bad}
 use Rattle.tree_tally.specs.declared.Counts.{Counts}
 use Rattle.tree_tally.specs.declared.Survey.{Survey}

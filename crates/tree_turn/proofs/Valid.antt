@@ -5,7 +5,7 @@ use mathlib.Core.Path.{◌≡◌, sym, subst}
 use native.Mathlib.Omega.{arith}
 use lib.ListN.{get_or}
 use Rattle.model.specs.Words.{Shape, height, count}
-use Rattle.model.specs.Paths.{no_position, stack, trail, last_of, above}
+use Rattle.model.specs.Paths.{no_position, stack, trail, last_of}
 use Rattle.model.specs.declared.path.Position.{Position}
 use Rattle.model.specs.declared.path.Path.{Path}
 use Rattle.model.proofs.Paths.{stack_pop}

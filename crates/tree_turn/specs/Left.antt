@@ -1,5 +1,5 @@
 -- What a path has left to visit, on any words.
-use Rattle.std.specs.Prelude.{ℕ, suc, ◌+◌, ◌-◌, ◌<◌, ◌≤◌, List, [], ◌∷◌, ◌++◌, ◌≡◌, Bool, ltb}
+use Rattle.std.specs.Prelude.{ℕ, suc, ◌-◌, ◌<◌, ◌≤◌, List, [], ◌∷◌, ◌++◌, ◌≡◌, Bool, ltb}
 use Rattle.model.specs.Words.{Shape, pick, height, count, end, row}
 use Rattle.model.specs.Tree.{Limit, Open, Below, pairs_from, level, last, over_pairs}
 use Rattle.model.specs.Reading.{Visit, Leave, visits}

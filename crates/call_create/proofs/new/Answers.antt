@@ -1,6 +1,5 @@
 use mathlib.Core.Path.{sym, ap, ◌∙◌}
 use native.Mathlib.Omega.{arith}
-use borrow.Author.Tests.{not-true, not-false}
 use Rattle.model.specs.Words.{lent, shape}
 use Rattle.model.specs.Refusals.{Outcome}
 use Rattle.model.proofs.Words.{header_at}

@@ -1,4 +1,3 @@
-use borrow.Author.Tests.{not-true, not-false}
 use mathlib.Core.Path.{sym, ap, ◌∙◌}
 use lib.Dec.{eqb, leb}
 use Rattle.node_read.specs.Layout.{shape_of}

@@ -1,9 +1,8 @@
-use Prim.Native.Nat.{◌-◌, ◌<◌, ◌≤◌}
+use Prim.Native.Nat.{◌<◌, ◌≤◌}
 use mathlib.Core.Path.{refl}
-use mathlib.Core.Logic.{◌⊎◌, inr}
+use mathlib.Core.Logic.{inr}
 use native.Mathlib.Omega.{arith}
 use Rattle.node_read.specs.Layout.{shape_of}
-use Rattle.model.specs.Words.{row}
 use Rattle.node_place.proofs.Places.{moved, kept, found, place-below}
 use Rattle.node_place.proofs.narrow.Goals as goal
 use Rattle.node_place.proofs.narrow.Goals.{then-row-q, else-row-q}
@@ -22,7 +21,7 @@ loop-i-preserved c =
     let b : at.i < a.count = omega (arith, end, c.loop-i-test.true) in
     let some : 1 ≤ a.count = omega arith in
     elim c.if-row-q.branch [
-      then-row-q w ↦ rw w.place-is (moved (shape_of a.l) a.s.now a.n.0 a.count some p.n_lt_pool.2 a.q.0 a.step at.place at.i at.invariant b (omega (arith, r, w.if-row-q.true)))
+      | then-row-q w ↦ rw w.place-is (moved (shape_of a.l) a.s.now a.n.0 a.count some p.n_lt_pool.2 a.q.0 a.step at.place at.i at.invariant b (omega (arith, r, w.if-row-q.true)))
       | else-row-q w ↦ rw w.place-is (kept (shape_of a.l) a.s.now a.n.0 a.count some p.n_lt_pool.2 a.q.0 a.step at.place at.i at.invariant p.le_step.0 b (omega (arith, r, w.if-row-q.false)))
     ]
 

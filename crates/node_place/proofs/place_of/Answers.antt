@@ -1,4 +1,3 @@
-use Prim.Native.Nat.{◌-◌}
 use native.Mathlib.Omega.{arith}
 use Rattle.node_read.specs.Layout.{shape_of}
 use Rattle.node_place.proofs.Places.{lies_in-all, begins}

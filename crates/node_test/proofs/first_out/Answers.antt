@@ -1,6 +1,5 @@
 use native.Mathlib.Omega.{arith}
 use native.Mathlib.Nat.{sub-zero}
-use Prim.Native.Nat.{◌-◌}
 use mathlib.Core.Path.{◌∙◌, sym}
 use Rattle.node_read.specs.Layout.{shape_of}
 use Rattle.node_test.proofs.Rows.{out-on, out-here, out-end}

@@ -1,10 +1,8 @@
-use borrow.Author.Tests.{not-true, not-false}
 use native.Mathlib.Omega.{arith}
 use Prim.Native.Nat.{ℕ}
 use mathlib.Core.Path.{◌∙◌, ap, sym}
 use mathlib.Core.Bool.{false≢true}
 use Rattle.node_read.specs.Layout.{shape_of}
-use Rattle.model.specs.Words.{count, row}
 use Rattle.model.specs.Tree.{rising, pairs_from}
 use Rattle.model.specs.declared.node.RowPageIndexNodeHeader.{RowPageIndexNodeHeader}
 use Rattle.node_test.specs.Test.{limit_of}

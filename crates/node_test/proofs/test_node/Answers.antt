@@ -2,10 +2,9 @@ use native.Mathlib.Omega.{arith}
 use Rattle.node_read.specs.Layout.{shape_of}
 use Rattle.model.specs.declared.node.RowPageIndexNodeHeader.{RowPageIndexNodeHeader}
 use Rattle.node_test.proofs.Rows.{facts}
-use borrow.Author.Tests.{not-true, not-false, eq-eqb, ne_eqb}
+use borrow.Author.Tests.{eq-eqb, ne_eqb}
 use mathlib.Core.Path.{◌∙◌, ap, sym}
 use Rattle.node_test.specs.Test.{limit_of, node_test}
-use Rattle.model.specs.Words.{count}
 use Rattle.node_test.proofs.test_node.Goals as goal
 
 pub returns-then-not-good : goal.returns-then-not-good

@@ -1,6 +1,5 @@
 use mathlib.Core.Path.{sym, ap, ◌∙◌}
 use native.Mathlib.Omega.{arith}
-use Rattle.model.specs.Words.{count}
 use Rattle.model.specs.declared.node.RowPageIndexNodeHeader.{RowPageIndexNodeHeader}
 use Rattle.prune_collapse.proofs.One.{none, far, tested}
 use Rattle.prune_collapse.proofs.copy_at.Goals as goal

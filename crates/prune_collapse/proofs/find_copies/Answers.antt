@@ -1,6 +1,5 @@
 use mathlib.Core.Path.{sym, ap, ◌∙◌}
 use native.Mathlib.Omega.{arith}
-use Rattle.model.specs.Words.{height}
 use Rattle.model.specs.declared.node.RowPageIndexNodeHeader.{RowPageIndexNodeHeader}
 use Rattle.prune_collapse.specs.Copied.{Collapses}
 use Rattle.prune_collapse.proofs.Copying.{first, own, ends, stops, spoils, goes}

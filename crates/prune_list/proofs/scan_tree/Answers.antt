@@ -45,6 +45,9 @@ returns-in-On c =
     let a = c.args in
     let C = shape_of a.l in
     let w = a.s.now in
-    let n = a.root.0 in record { answer = c.scan_below.ensures.answer
+    let n = a.root.0 in record {
+      answer = c.scan_below.ensures.answer
           ∙ ap (λ (x : Scan). ran_out a.end.0 (scan C w a.end.0 (below false C a.l.pool w n) x)) (sym (ap (progress_of a.ids.now) c.in-On.is) ∙ c.scan_node.ensures)
-          ∙ ap (ran_out a.end.0) (sym (tree-scan C a.l.pool w a.end.0 n c.requires.passed_root.0 c.requires.passed_root.2 (on a.ids.now 0 0))); edge = c.scan_below.ensures.edge }
+          ∙ ap (ran_out a.end.0) (sym (tree-scan C a.l.pool w a.end.0 n c.requires.passed_root.0 c.requires.passed_root.2 (on a.ids.now 0 0)));
+      edge = c.scan_below.ensures.edge;
+    }

@@ -1,4 +1,4 @@
-use Prim.Native.Nat.{◌+◌, ◌-◌, ◌≤◌}
+use Prim.Native.Nat.{◌+◌, ◌≤◌}
 use mathlib.Core.List.{reverse}
 use mathlib.Core.Path.{◌≡◌}
 use Rattle.model.specs.Words.{free_all, free_count}

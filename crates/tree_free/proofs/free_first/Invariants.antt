@@ -9,7 +9,7 @@ use Rattle.tree_free.proofs.Freeing.{Freeable}
 use Rattle.tree_free.proofs.free_first.Given as goal
 
 abbrev pub invariant-loop-freed : goal.invariant-loop-freed
-invariant-loop-freed l =     Freeable (shape_of l.l) l.l.pool l.initial.s (free_all (shape_of l.l) l.initial.s (take l.k (root_nodes (shape_of l.l) l.initial.s (last_of l.initial.path).node.0))) l.k l.freed l.s l.path
+invariant-loop-freed l = Freeable (shape_of l.l) l.l.pool l.initial.s (free_all (shape_of l.l) l.initial.s (take l.k (root_nodes (shape_of l.l) l.initial.s (last_of l.initial.path).node.0))) l.k l.freed l.s l.path
 
 abbrev pub decreases-loop-freed : goal.decreases-loop-freed
 decreases-loop-freed l = length (left false (shape_of l.l) l.l.pool l.initial.s l.path)

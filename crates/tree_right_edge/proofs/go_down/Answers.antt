@@ -2,7 +2,6 @@ use Prim.Native.Nat.{ℕ, ◌-◌}
 use mathlib.Core.Path.{refl, sym, ap, ◌∙◌}
 use native.Mathlib.Omega.{arith}
 use mathlib.Core.Bool.{not}
-use Rattle.model.specs.Words.{count}
 use Rattle.model.specs.declared.node.RowPageIndexNodeHeader.{RowPageIndexNodeHeader}
 use Rattle.tree_right_edge.specs.Edge.{room_of}
 use Rattle.tree_right_edge.proofs.Turns.{has_room, no_room, begins, far, bad, entry, goes_on, arrives, stops}
@@ -39,7 +38,7 @@ returns-then-h-eq0 c =
     let good = sym c.is_sound-good.ensures ∙ c.if-not-good.false in
     arrives x.loop-n.invariant c.if-l-n.false good x.requires.height_le_max_height _ (ap (λ (y : ℕ). y - 1) k) (room_of c.if-not-full.room)
     (elim c.if-not-full.branch [
-      then-not-full v ↦ ap room_of v.room-is ∙ has_room _ _ _ _ _ _ _ c.is_full-full.ensures k (ap not v.if-not-full.true)
+      | then-not-full v ↦ ap room_of v.room-is ∙ has_room _ _ _ _ _ _ _ c.is_full-full.ensures k (ap not v.if-not-full.true)
       | else-not-full v ↦ ap room_of v.room-is ∙ no_room _ _ _ _ _ _ _ c.is_full-full.ensures k (ap not v.if-not-full.false)
     ])
     c.if-h-eq0.true _ refl refl refl refl
@@ -66,7 +65,7 @@ loop-n-preserved c =
     rw (c.child-n.ensures, c.row-r.ensures)
     (goes_on x.loop-n.invariant c.if-l-n.false good x.requires.height_le_max_height _ (ap (λ (y : ℕ). y - 1) k) (room_of c.if-not-full.room)
     (elim c.if-not-full.branch [
-      then-not-full v ↦ ap room_of v.room-is ∙ has_room _ _ _ _ _ _ _ c.is_full-full.ensures k (ap not v.if-not-full.true)
+      | then-not-full v ↦ ap room_of v.room-is ∙ has_room _ _ _ _ _ _ _ c.is_full-full.ensures k (ap not v.if-not-full.true)
       | else-not-full v ↦ ap room_of v.room-is ∙ no_room _ _ _ _ _ _ _ c.is_full-full.ensures k (ap not v.if-not-full.false)
     ])
     (omega (arith, c.if-h-eq0.false)))

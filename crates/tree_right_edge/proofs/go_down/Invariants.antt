@@ -1,11 +1,10 @@
-use Prim.Native.Nat.{◌-◌}
 use Rattle.node_read.specs.Layout.{shape_of}
 use Rattle.tree_right_edge.specs.Edge.{room_of}
 use Rattle.tree_right_edge.proofs.Turns.{Going}
 use Rattle.tree_right_edge.proofs.go_down.Given as goal
 
 abbrev pub invariant-loop-n : goal.invariant-loop-n
-invariant-loop-n l =     Going (shape_of l.l) l.l.pool l.s l.height l.initial.n.0 l.initial.r.0 l.positions (room_of l.room) l.parent.0 l.n.0 l.h l.r.0 l.depth
+invariant-loop-n l = Going (shape_of l.l) l.l.pool l.s l.height l.initial.n.0 l.initial.r.0 l.positions (room_of l.room) l.parent.0 l.n.0 l.h l.r.0 l.depth
 
 abbrev pub decreases-loop-n : goal.decreases-loop-n
 decreases-loop-n l = l.h

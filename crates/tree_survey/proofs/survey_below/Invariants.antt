@@ -11,7 +11,7 @@ use Rattle.tree_survey.proofs.WithEnds.{Both}
 use Rattle.tree_survey.proofs.survey_below.Given as goal
 
 abbrev pub invariant-loop-path : goal.invariant-loop-path
-invariant-loop-path l =     Both (shape_of l.l) l.l.pool l.s (tally (shape_of l.l) l.s (below false (shape_of l.l) l.l.pool l.s (last_of l.initial.path).node.0) l.initial.counts) (with_ends l.l.pool l.initial.wrong.0 (tally (shape_of l.l) l.s (below true (shape_of l.l) l.l.pool l.s (last_of l.initial.path).node.0) l.initial.counts)) l.path (limits l.bounded l.rows) l.firsts l.counts l.wrong.0
+invariant-loop-path l = Both (shape_of l.l) l.l.pool l.s (tally (shape_of l.l) l.s (below false (shape_of l.l) l.l.pool l.s (last_of l.initial.path).node.0) l.initial.counts) (with_ends l.l.pool l.initial.wrong.0 (tally (shape_of l.l) l.s (below true (shape_of l.l) l.l.pool l.s (last_of l.initial.path).node.0) l.initial.counts)) l.path (limits l.bounded l.rows) l.firsts l.counts l.wrong.0
     × (length l.bounded ≡ 32) × (length l.rows ≡ 32)
 
 abbrev pub decreases-loop-path : goal.decreases-loop-path

@@ -1,6 +1,6 @@
 use native.Mathlib.Omega.{arith}
 use mathlib.Core.Path.{sym, ◌∙◌}
-use borrow.Author.Tests.{not-true, not-false, le-leb}
+use borrow.Author.Tests.{le-leb}
 use Rattle.model.specs.Words.{pool, root, free_head}
 use Rattle.model.specs.Refusals.{header_ok}
 use Rattle.model.proofs.Header.{header-not}

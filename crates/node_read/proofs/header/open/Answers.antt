@@ -1,4 +1,3 @@
-use borrow.Author.Tests.{not-true, not-false}
 use native.Mathlib.Omega.{arith}
 use mathlib.Core.Path.{sym, ◌∙◌}
 use Rattle.node_read.proofs.Opened.{opened-damaged, opened-closed, opened_open, eight}

@@ -1,7 +1,7 @@
 use native.Mathlib.Omega.{arith}
 use Prim.Native.Nat.{◌+◌, ◌*◌, ◌-◌}
 use mathlib.Core.Path.{◌≡◌, ap, ◌∙◌}
-use Rattle.model.specs.Words.{word_place, row_place}
+use Rattle.model.specs.Words.{word_place}
 use Rattle.model.proofs.Words.{small}
 use Rattle.node_read.specs.Layout.{shape_of}
 use Rattle.model.proofs.Parts.{pairs-inside}

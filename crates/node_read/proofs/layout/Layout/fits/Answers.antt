@@ -1,5 +1,4 @@
 use mathlib.Core.Path.{sym, ◌∙◌}
-use borrow.Author.Tests.{not-true, not-false}
 use Rattle.model.proofs.Header.{range_of}
 use Rattle.node_read.proofs.layout.Layout.fits.Goals as goal
 
