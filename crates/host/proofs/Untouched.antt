@@ -5,7 +5,6 @@ use mathlib.Core.Bool.{true, false}
 use mathlib.Core.Path.{◌≡◌, refl, ap, ◌∙◌}
 use native.Mathlib.Omega.{arith}
 use lib.ListN.{length}
-use lib.Dec.{eqb}
 use borrow.Author.Tests.{eqb-true}
 use Rattle.model.specs.Words.{lent, fill}
 use Rattle.model.specs.Refusals.{Answer, result, refused, Outcome}
@@ -19,7 +18,7 @@ use Rattle.model.proofs.Still.{create-still, insert_still, prune-still, destroy-
 use Rattle.next_words.specs.Written.{record_words, records_in}
 use Rattle.next_words.proofs.Equation.{written_back}
 use Rattle.host_cursor.specs.Cursors.{cursor_in, cursor_after}
-use Rattle.host.specs.Served.{Arrays, with_words, with_pages, with_cursor, with_records, Function, create, append, find, prune, destroy, destroy_empty, check, seek, next, Served, served, is_none, changes_nothing}
+use Rattle.host.specs.Served.{Arrays, with_words, with_pages, with_cursor, with_records, Function, create, append, find, prune, destroy, destroy_empty, check, seek, next, served, is_none, changes_nothing}
 
 no_way : {A : Type 0} → false ≡ true → A
 no_way e = let z : ◌≡◌ {A = ℕ} 0 1 = cc in absurd (omega arith)

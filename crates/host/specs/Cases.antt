@@ -1,6 +1,6 @@
 -- A host's cursor in lent words, and what it gets for it.
-use Rattle.std.specs.Prelude.{ℕ, List, [], ◌∷◌, map, Bool, true, false}
-use Rattle.model.specs.Refusals.{Answer, result, refused}
+use Rattle.std.specs.Prelude.{ℕ, List, [], ◌∷◌, map, true, false}
+use Rattle.model.specs.Refusals.{result, refused}
 use Rattle.model.specs.LeafWalk.{cursor_at}
 use Rattle.model.specs.declared.cursor.RowPageIndexMemCursor.{RowPageIndexMemCursor}
 use Rattle.answer_numbers.specs.Numbers.{answer_words}

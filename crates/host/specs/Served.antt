@@ -1,5 +1,5 @@
 -- What each C function answers, and what it leaves in the arrays that it was lent: the contracts of the functions.
-use Rattle.std.specs.Prelude.{ℕ, List, [], ◌∷◌, Bool, true, false, length, eqb}
+use Rattle.std.specs.Prelude.{ℕ, List, [], Bool, true, false, length, eqb}
 use Rattle.model.specs.Words.{lent, fill}
 use Rattle.model.specs.Refusals.{Answer, result, refused}
 use Rattle.model.specs.Create as Create

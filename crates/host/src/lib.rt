@@ -32,12 +32,7 @@ pub fn row_page_index_create(
 }
 
 // Values: start, end, nodes taken.
-pub fn row_page_index_append(
-    words: &mut [u64],
-    count: u64,
-    page: u64,
-    answer: &mut [u64],
-) -> u64
+pub fn row_page_index_append(words: &mut [u64], count: u64, page: u64, answer: &mut [u64]) -> u64
     ensures words { words.new ≡ (served (on_words words.old) (append count page)).arrays.words }
     ensures answer { Tells answer.old (answer_words (served (on_words words.old) (append count page)).answer) answer.new result }
 {

@@ -1,19 +1,19 @@
 -- A record that is known, the listing after it, and lines put where they have room.
-use Prim.Native.Nat.{ℕ, ◌+◌, ◌-◌, ◌^◌, ◌≤◌, ◌<◌}
+use Prim.Native.Nat.{ℕ, ◌+◌, ◌^◌, ◌≤◌, ◌<◌}
 use mathlib.Core.Path.{◌≡◌, refl, sym, ◌∙◌, ap}
-use mathlib.Core.List.{List, [], ◌∷◌, ◌++◌, append-nil, append_assoc}
+use mathlib.Core.List.{List, [], ◌++◌, append-nil, append_assoc}
 use mathlib.Core.Bool.{Bool, true, false, ◌&&◌}
 use native.Mathlib.Omega.{arith}
 use lib.Dec.{leb, ltb}
-use lib.ListN.{length, take, drop, length-append, length-drop, length-take, take-append-drop}
-use lib.Seq.{take-append-le, drop-append-le, drop-drop, take_at, length-take-le}
-use borrow.Author.Tests.{le-leb, lt-leb, lt-ltb, le-ltb, leb-true, leb-false, ltb-true, ltb-false}
-use Rattle.model.specs.Words.{pick, fill}
+use lib.ListN.{length, take, drop, length-append, length-drop, take-append-drop}
+use lib.Seq.{take-append-le, drop-append-le, take_at, length-take-le}
+use borrow.Author.Tests.{le-leb, lt-leb, lt-ltb, le-ltb, leb-true, ltb-true, ltb-false}
+use Rattle.model.specs.Words.{fill}
 use Rattle.model.proofs.Tests.{by_test}
 use Rattle.model.proofs.Fill.{fill-append, fill_is}
 use Rattle.script_text.specs.Lines.{Puts}
 use Rattle.script_text.proofs.Putting.{same}
-use Rattle.script_records.specs.Records.{Request, body_length, whole, first}
+use Rattle.script_records.specs.Records.{body_length, whole, first}
 use Rattle.script_records.proofs.Heads.{within}
 use Rattle.script_calls.specs.Calls.{Memory, perform}
 use Rattle.script_calls.specs.Steps.{memory, Does}

@@ -1,6 +1,6 @@
 -- The scripts of specs/Example, by computation over the definitions.
 use mathlib.Core.Path.{◌≡◌, refl}
-use mathlib.Core.List.{List, map}
+use mathlib.Core.List.{map}
 use Rattle.model.specs.Append.{append_start, room_from, room, firsts, past, chain_sound, taken, fresh, top_of, end_over, new_path, hang, raised, split_root, append_at, append_to, insert_row_page}
 use Rattle.model.specs.Create.{chained, new_store, create}
 use Rattle.model.specs.Cut.{if_gone, keep, cut_pairs, trim, cut, went_pairs, went, trims_pairs, trims, kept}

@@ -1,5 +1,5 @@
 -- Scripts and their listings: 01's own, and the edges of its records.
-use Rattle.std.specs.Prelude.{ℕ, zero, suc, ◌+◌, ◌*◌, ◌-◌, ◌/◌, ◌%◌, ◌^◌, List, [], ◌∷◌, ◌++◌, map, length}
+use Rattle.std.specs.Prelude.{ℕ, zero, suc, ◌+◌, ◌/◌, ◌%◌, ◌^◌, List, [], ◌∷◌, ◌++◌, map, length}
 use Rattle.model.specs.Words.{NONE}
 use Rattle.script_text.specs.Lines.{line}
 use Rattle.answer_line.specs.Names.{create_name, append_name, page_name, none_name, prune_name, leaf_name, end_name, release_name, no_name, free_name, bad_record_name}

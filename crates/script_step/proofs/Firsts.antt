@@ -1,15 +1,13 @@
 -- What the first record of some bytes asks for.
 use Prim.Native.Nat.{ℕ, ◌+◌, ◌-◌, ◌≤◌}
-use mathlib.Core.Path.{◌≡◌, refl, sym, ◌∙◌, ap}
+use mathlib.Core.Path.{◌≡◌, sym, ◌∙◌}
 use mathlib.Core.List.{List}
-use mathlib.Core.Bool.{true, false}
 use native.Mathlib.Omega.{arith}
-use lib.ListN.{length, take, drop, length-drop, length-take}
-use Rattle.model.specs.Words.{pick}
-use Rattle.script_records.specs.Records.{Request, Bad, body_length, whole, first, asked}
+use lib.ListN.{length, take, drop, length-take}
+use Rattle.script_records.specs.Records.{Request, Bad, first, asked}
 use Rattle.script_records.specs.Read.{head_of}
 use Rattle.script_records.specs.declared.Head.TheVariants as H
-use Rattle.script_records.proofs.Heads.{within, wholly, badly}
+use Rattle.script_records.proofs.Heads.{wholly, badly}
 
 pub first-bad : (bs : List ℕ) → H.Bad ≡ head_of bs → first bs ≡ Bad
 unfolding first

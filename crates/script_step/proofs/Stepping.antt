@@ -1,21 +1,16 @@
 -- The record that bytes begin with, and the listing after it.
-use Prim.Native.Nat.{ℕ, zero, suc, ◌+◌, ◌-◌, ◌^◌, ◌≤◌, ◌<◌}
+use Prim.Native.Nat.{ℕ, zero, suc, ◌+◌, ◌^◌, ◌≤◌, ◌<◌}
 use mathlib.Core.Path.{◌≡◌, refl, sym, ◌∙◌, ap}
 use mathlib.Core.List.{List, [], ◌∷◌, ◌++◌, append-nil}
-use mathlib.Core.Bool.{Bool, true, false}
+use mathlib.Core.Bool.{true, false}
 use native.Mathlib.Omega.{arith}
-use lib.ListN.{length, take, drop, replicate, length-drop, length-take, length-replicate}
-use lib.Seq.{drop-length, drop-drop}
+use lib.ListN.{length, drop, replicate, length-drop, length-replicate}
 use Rattle.model.specs.Words.{pick, free_count}
-use Rattle.model.specs.Refusals.{Answer, result, refused}
-use Rattle.model.specs.Create.{create}
 use Rattle.model.proofs.Tests.{by_test}
 use Rattle.script_text.specs.Lines.{Puts, line}
 use Rattle.script_text.proofs.Putting.{joins}
-use Rattle.script_records.specs.Records.{Request, Create, Append, Find, Prune, Walk, Release, Bad, body_length, whole, first, asked}
-use Rattle.script_records.specs.Read.{head_of}
-use Rattle.script_records.specs.declared.Head.TheVariants as H
-use Rattle.script_records.proofs.Heads.{within, wholly, badly}
+use Rattle.script_records.specs.Records.{body_length, whole, first}
+use Rattle.script_records.proofs.Heads.{within}
 use Rattle.answer_line.specs.Names.{free_name}
 use Rattle.script_calls.specs.Calls.{Memory, perform}
 use Rattle.script_walk.proofs.Short.{line-short, short}

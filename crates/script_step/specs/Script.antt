@@ -1,5 +1,5 @@
 -- 01, "Script program": the listing that a script prints, a function of its bytes.
-use Rattle.std.specs.Prelude.{ℕ, zero, suc, ◌+◌, List, [], ◌∷◌, ◌++◌, Bool, true, false, length, drop}
+use Rattle.std.specs.Prelude.{ℕ, zero, suc, ◌+◌, List, [], ◌∷◌, ◌++◌, false, length, drop}
 use Rattle.model.specs.Words.{pick, free_count}
 use Rattle.script_text.specs.Lines.{line}
 use Rattle.script_records.specs.Records.{body_length, first}

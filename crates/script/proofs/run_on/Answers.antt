@@ -1,7 +1,7 @@
 use borrow.Author.Rules.{rules}
 use borrow.Author.Tests.{not-true, not-false}
 use borrow.Author.Rules.{part_to_end}
-use Prim.Native.Nat.{◌-◌, ◌^◌, ◌<◌}
+use Prim.Native.Nat.{◌^◌, ◌<◌}
 use mathlib.Core.Path.{◌≡◌, refl, sym, ◌∙◌}
 use native.Mathlib.Omega.{arith}
 use lib.ListN.{length, drop, length-drop, drop_of_length-le}
@@ -27,7 +27,7 @@ returns-then-not-t c =
     let bs = drop v.pos a.script.now in
     let some : 0 < length bs = omega (arith, length-drop v.pos a.script.now, c.loop-pos-test.true) in
     let d = rw (part_to_end a.script.now v.pos) at c.step-t.ensures in
-    v.invariant.4 _ _ (stops v.s v.used bs some d c.if-not-t.true)
+    v.invariant.4 _ _ (stops v.s v.used bs some d (not-true _ c.if-not-t.true))
 
 pub record_length-pos-requires : goal.record_length-pos-requires
 record_length-pos-requires c =
@@ -36,7 +36,7 @@ record_length-pos-requires c =
     let bs = drop v.pos a.script.now in
     let some : 0 < length bs = omega (arith, length-drop v.pos a.script.now, c.loop-pos-test.true) in
     let d = rw (part_to_end a.script.now v.pos) at c.step-t.ensures in
-    rw (part_to_end a.script.now v.pos) (goes-whole (memory v.s v.used) bs (sym d.goes ∙ c.if-not-t.false))
+    rw (part_to_end a.script.now v.pos) (goes-whole (memory v.s v.used) bs (sym d.goes ∙ not-false _ c.if-not-t.false))
 
 pub overflow_add-pos : goal.overflow_add-pos
 overflow_add-pos c =
@@ -45,7 +45,7 @@ overflow_add-pos c =
     let bs = drop v.pos a.script.now in
     let some : 0 < length bs = omega (arith, length-drop v.pos a.script.now, c.loop-pos-test.true) in
     let d = rw (part_to_end a.script.now v.pos) at c.step-t.ensures in
-    let g = c.if-not-t.false in
+    let g = not-false _ c.if-not-t.false in
     let n = rw (part_to_end a.script.now v.pos) at c.record_length-pos.ensures in
     let f = next_fits v.s v.used bs some d g in
     omega (arith, length-drop v.pos a.script.now)
@@ -57,7 +57,7 @@ loop-pos-smaller c =
     let bs = drop v.pos a.script.now in
     let some : 0 < length bs = omega (arith, length-drop v.pos a.script.now, c.loop-pos-test.true) in
     let d = rw (part_to_end a.script.now v.pos) at c.step-t.ensures in
-    let g = c.if-not-t.false in
+    let g = not-false _ c.if-not-t.false in
     let n = rw (part_to_end a.script.now v.pos) at c.record_length-pos.ensures in
     let f = next_fits v.s v.used bs some d g in
     omega (arith, length-drop v.pos a.script.now, c.loop-pos-test.true)
@@ -69,12 +69,12 @@ loop-pos-preserved c =
     let bs = drop v.pos a.script.now in
     let some : 0 < length bs = omega (arith, length-drop v.pos a.script.now, c.loop-pos-test.true) in
     let d = rw (part_to_end a.script.now v.pos) at c.step-t.ensures in
-    let g = c.if-not-t.false in
+    let g = not-false _ c.if-not-t.false in
     let n = rw (part_to_end a.script.now v.pos) at c.record_length-pos.ensures in
     let f = next_fits v.s v.used bs some d g in
     let small : length v.out < 2 ^ 64 = omega arith in
     let u = used-fits v.s v.used (first bs) v.invariant.2 in
-    let l : length c.step-t.new.0 ≡ length a.s.now = search rules in (
+    let l : length c.step-t.new.s ≡ length a.s.now = search rules in (
       l,
       same d.puts ∙ v.invariant.1,
       omega (arith, d.used, u, l, v.invariant.0),

@@ -1,7 +1,7 @@
 use borrow.Author.Rules.{rules}
 use borrow.Author.Tests.{not-true, not-false}
 use borrow.Author.Rules.{part_to_end}
-use Prim.Native.Nat.{ℕ, ◌+◌, ◌-◌, ◌^◌, ◌≤◌, ◌<◌}
+use Prim.Native.Nat.{ℕ, ◌+◌, ◌^◌, ◌≤◌, ◌<◌}
 use mathlib.Core.Path.{◌≡◌, refl, sym, ◌∙◌, ap}
 use native.Mathlib.Omega.{arith}
 use lib.ListN.{length, drop, length-drop}
@@ -37,9 +37,9 @@ returns-then-not-t c =
     let small : length v.out < 2 ^ 64 = omega arith in
     let room : v.at + 65536 ≤ length v.out = omega (arith, v.invariant.4, c.loop-out-test.true) in
     let u = used-fits v.s v.words (first bs) v.invariant.2 in
-    let l : length c.step-t.new.0 ≡ length v.s = search rules in
+    let l : length c.step-t.new.s ≡ length v.s = search rules in
     let o = placed v.s v.words bs h few small room d in
-    record { is = λ more. v.invariant.5 more ∙ stopped v.s v.words bs h few small room d c.if-not-t.true more; bounds = (omega (arith, d.used, u, l), v.invariant.3, o); rests = refl }
+    record { is = λ more. v.invariant.5 more ∙ stopped v.s v.words bs h few small room d (not-true _ c.if-not-t.true) more; bounds = (omega (arith, d.used, u, l), v.invariant.3, o); rests = refl }
 
 pub overflow_add-taken : goal.overflow_add-taken
 overflow_add-taken c =
@@ -50,7 +50,7 @@ overflow_add-taken c =
     let e = rw (part_to_end bytes v.taken) at c.known_length-len.ensures in
     let h : 0 < known_length bs = omega (arith, e, c.if-len-eq0.false) in
     let d = rw (part_to_end bytes v.taken) at c.step-t.ensures in
-    let g = c.if-not-t.false in
+    let g = not-false _ c.if-not-t.false in
     let f = goes-fits (memory v.s v.words) bs h (sym d.goes ∙ g) in
     omega (arith, e, f, length-drop v.taken bytes, v.invariant.3)
 
@@ -63,7 +63,7 @@ loop-out-smaller c =
     let e = rw (part_to_end bytes v.taken) at c.known_length-len.ensures in
     let h : 0 < known_length bs = omega (arith, e, c.if-len-eq0.false) in
     let d = rw (part_to_end bytes v.taken) at c.step-t.ensures in
-    let g = c.if-not-t.false in
+    let g = not-false _ c.if-not-t.false in
     let f = goes-fits (memory v.s v.words) bs h (sym d.goes ∙ g) in
     omega (arith, e, f, h, length-drop v.taken bytes, v.invariant.3)
 
@@ -76,13 +76,13 @@ loop-out-preserved c =
     let e = rw (part_to_end bytes v.taken) at c.known_length-len.ensures in
     let h : 0 < known_length bs = omega (arith, e, c.if-len-eq0.false) in
     let d = rw (part_to_end bytes v.taken) at c.step-t.ensures in
-    let g = c.if-not-t.false in
+    let g = not-false _ c.if-not-t.false in
     let f = goes-fits (memory v.s v.words) bs h (sym d.goes ∙ g) in
     let few : length v.s ≤ 4096 = omega (arith, v.invariant.0, x.requires.0) in
     let small : length v.out < 2 ^ 64 = omega arith in
     let room : v.at + 65536 ≤ length v.out = omega (arith, v.invariant.4, c.loop-out-test.true) in
     let u = used-fits v.s v.words (first bs) v.invariant.2 in
-    let l : length c.step-t.new.0 ≡ length v.s = search rules in
+    let l : length c.step-t.new.s ≡ length v.s = search rules in
     let o = placed v.s v.words bs h few small room d in
     let n = c.known_length-len.result in
     let q : drop (known_length bs) bs ≡ drop (v.taken + n) bytes = drop-drop (known_length bs) v.taken bytes ∙ ap (λ (k : ℕ). drop (v.taken + k) bytes) (sym e) in (

@@ -7,11 +7,11 @@ pub slice_bounds-prune_checkpoint_prefix-end-2 : goal.slice_bounds-prune_checkpo
 slice_bounds-prune_checkpoint_prefix-end-2 c = let x = c.args in sym (length-take-le x.used x.s.now c.requires.0)
 
 pub slice_bounds-prune_checkpoint_prefix-end-3 : goal.slice_bounds-prune_checkpoint_prefix-end-3
-slice_bounds-prune_checkpoint_prefix-end-3 c = sym (length-take-le _ c.copy_ids-k.new.1.0 c.copy_ids-k.ensures.few)
+slice_bounds-prune_checkpoint_prefix-end-3 c = sym (length-take-le _ c.copy_ids-k.new.ids c.copy_ids-k.ensures.few)
 
 pub returns : goal.returns
 returns c =
     let x = c.args in
     let r = c.prune_checkpoint_prefix-a.ensures in
     let e = c.copy_ids-k.ensures.is in
-    prunes x.s.now x.out.now x.used _ _ _ _ _ _ _ _ (c.pruned_numbers-n.ensures.answer ∙ rw e at r.0) (rw e at r.1) c.put_answer-place.ensures
+    prunes x.s.now x.out.now x.used _ _ _ _ _ _ _ _ (c.pruned_numbers-n.ensures.answer ∙ rw e at r.answer) (rw e at r.words) c.put_answer-place.ensures

@@ -29,6 +29,6 @@ returns c =
     let step = c.step in
     let e = turn-some (memory w u) bs some in
     let d = rw (← e) at step.ensures in
-    let l : length step.new.0 ≡ length w = search rules in
+    let l : length step.new.s ≡ length w = search rules in
     let fits = used-fits w u (first bs) x.requires.2 in
     record { does = d; bounds = (omega (arith, step.ensures.used, fits, l), omega (arith, d.puts.place, turn-short (memory w u) bs x.requires.1)) }
