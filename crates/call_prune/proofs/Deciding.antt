@@ -1,23 +1,22 @@
 -- The call by cases.
 use Prim.Native.Nat.{ℕ, suc, ◌<◌, ◌≤◌}
-use mathlib.Core.List.{List, [], ◌∷◌}
+use mathlib.Core.List.{List}
 use mathlib.Core.Bool.{Bool, true, false, ◌&&◌, ◌||◌}
 use mathlib.Core.Path.{◌≡◌, refl, sym, ap, ◌∙◌, subst}
 use mathlib.Core.Logic.{◌≢◌}
-use native.Mathlib.Omega.{arith}
 use lib.ListN.{length}
-use lib.Dec.{leb, ltb, eqb}
+use lib.Dec.{leb, eqb}
 use borrow.Author.Tests.{le-leb, lt-leb, eq-eqb, ne_eqb, leb-true}
-use Rattle.model.specs.Words.{lent, Shape, pick, capacity, pool, root, free_count, part, height, count, start, max_height}
+use Rattle.model.specs.Words.{lent, Shape, height, start, max_height}
 use Rattle.model.specs.Tree.{Open, node_at, level, sound, empty_root, root_sound}
 use Rattle.model.specs.Reading.{passes, root_tree, visits}
-use Rattle.model.specs.Refusals.{Answer, result, refused, Outcome, refusal}
-use Rattle.model.specs.Prune.{Scan, on, scan, ran_out, prune_scanned, prune_root, prune_checkpoint_prefix}
+use Rattle.model.specs.Refusals.{Answer, refused, Outcome, refusal}
+use Rattle.model.specs.Prune.{on, scan, ran_out, prune_scanned, prune_root, prune_checkpoint_prefix}
 use Rattle.model.specs.declared.answer.Refusal.{Refusal}
 use Rattle.node_read.specs.Layout.{shape_of, opened}
 use Rattle.node_read.specs.declared.header.StoreHeader.{StoreHeader}
 use Rattle.node_read.specs.declared.header.Opened.TheVariants.{Refused}
-use Rattle.node_read.proofs.Opened.{IsOpen, is-refused, goes_on}
+use Rattle.node_read.proofs.Opened.{IsOpen, is-refused}
 use Rattle.model.proofs.Answers.{is-refusal}
 use Rattle.prune_list.specs.Named.{ending_of, Ending}
 use Rattle.prune_boundary.specs.Edge.{Ended}

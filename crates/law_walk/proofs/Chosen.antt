@@ -1,24 +1,23 @@
 -- The leaf that a path towards a row reaches is the one that the row chooses among the tree's leaves.
 use Prim.Native.Nat.{ℕ, zero, suc, ◌+◌, ◌-◌, ◌<◌, ◌≤◌}
-use mathlib.Core.List.{List, [], ◌∷◌, ◌++◌}
-use mathlib.Core.Bool.{Bool, true, false}
+use mathlib.Core.List.{List, [], ◌∷◌}
+use mathlib.Core.Bool.{true}
 use mathlib.Core.Path.{◌≡◌, refl, sym, ap, ◌∙◌, subst}
 use mathlib.Core.Logic.{◌⊎◌, inl, inr, ⊎_elim}
 use native.Mathlib.Omega.{arith}
-use lib.ListN.{length}
 use lib.Dec.{T, leb, ltb, ltb→lt}
 use borrow.Author.Tests.{le-leb, leb-true, leb-false, ltb-false}
-use Rattle.model.specs.Words.{store_shape, lent, Shape, pick, pool, root, part, height, count, start, end, row, child, row_limit, max_height}
+use Rattle.model.specs.Words.{store_shape, lent, Shape, pick, pool, root, height, count, start, end, row, child, row_limit, max_height}
 use Rattle.model.specs.Tree.{Limit, Open, Below, end_sound, sound, node_at, pairs_from, rising, Level, level, last, over_pairs, all_pairs, Under, AllSound}
 use Rattle.model.specs.Reading.{Reached, leaf, next_row, descend, root_leaf, last_not_above, to_row, root_tree}
-use Rattle.model.specs.WellFormed.{WellFormed, EmptyRoot, SoundRoot, empty_tree, sound_tree}
+use Rattle.model.specs.WellFormed.{WellFormed, SoundRoot, empty_tree, sound_tree}
 use Rattle.model.proofs.Tests.{by_test, holds, is_true}
 use Rattle.model.proofs.Frame.{length_pairs}
-use Rattle.model.proofs.Look.{Chosen, choose}
+use Rattle.model.proofs.Look.{Chosen}
 use Rattle.model.proofs.Lookup.{is_empty, not_empty}
 use Rattle.model.proofs.Place.{all-at, forth, choose-at}
-use Rattle.model.proofs.Sound.{Begins, begins, meets-is, soundly, sound-at, sound-begins, sound-ends, sound-below}
-use Rattle.node_test.proofs.Rows.{Facts, facts, sound_if}
+use Rattle.model.proofs.Sound.{meets-is, soundly, sound-at, sound-begins, sound-ends, sound-below}
+use Rattle.node_test.proofs.Rows.{facts, sound_if}
 use Rattle.tree_path.proofs.Down.{down, ends, root_empty, root-path}
 use Rattle.node_place.proofs.Places.{place_at, above_from, place-below}
 use Rattle.law_formed.proofs.Linked.{Meets}

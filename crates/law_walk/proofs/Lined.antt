@@ -1,16 +1,15 @@
 -- The leaves of a sound tree, in order: each ends where the next begins; and the leaf that a row chooses among them.
-use Prim.Native.Nat.{ℕ, zero, suc, ◌+◌, ◌-◌, ◌<◌, ◌≤◌}
+use Prim.Native.Nat.{ℕ, ◌<◌, ◌≤◌}
 use mathlib.Core.List.{List, [], ◌∷◌, ◌++◌, append-nil}
-use mathlib.Core.Bool.{Bool, true, false}
 use mathlib.Core.Path.{◌≡◌, refl, sym, ap, ◌∙◌, subst}
 use mathlib.Core.Logic.{◌⊎◌, inl, inr}
 use native.Mathlib.Omega.{arith}
 use lib.Dec.{leb}
 use borrow.Author.Tests.{le-leb, lt-leb, leb-true, leb-false}
-use Rattle.model.specs.Words.{Shape, pick, root, part, count, start, end}
+use Rattle.model.specs.Words.{Shape, pick, root, count, start, end}
 use Rattle.model.specs.Tree.{Limit, Open, Below, pairs_from, next, over_pairs, all_pairs, Under}
 use Rattle.model.proofs.Tests.{by_test}
-use Rattle.model.proofs.Look.{Chosen, choose}
+use Rattle.model.proofs.Look.{choose}
 use Rattle.model.proofs.Sound.{Begins, begins}
 use Rattle.law_formed.proofs.Linked.{Meets}
 use Rattle.law_walk.specs.Walking.{LeafAt}

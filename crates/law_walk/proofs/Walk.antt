@@ -1,6 +1,6 @@
 -- A walk over a store that holds a ledger gives the ledger's records: demand 3. Nothing changes the store between the
 -- steps.
-use Prim.Native.Nat.{ℕ, zero, suc, ◌+◌, ◌-◌, ◌<◌, ◌≤◌}
+use Prim.Native.Nat.{ℕ, zero, suc, ◌+◌, ◌<◌, ◌≤◌}
 use mathlib.Core.List.{List, [], ◌∷◌, ◌++◌, map, tail, append-nil, append_assoc}
 use mathlib.Core.Bool.{Bool, true, false}
 use mathlib.Core.Path.{◌≡◌, refl, sym, ap, ◌∙◌, subst}
@@ -9,10 +9,10 @@ use native.Mathlib.Omega.{arith}
 use native.Mathlib.Numerals.{add-one}
 use lib.ListN.{length, set, take, length-append}
 use borrow.Author.Tests.{le-ltb}
-use Rattle.model.specs.Words.{store_shape, lent, Shape, fill, capacity, pool, root, part, height, count, start, end, row, child}
+use Rattle.model.specs.Words.{store_shape, lent, Shape, fill, capacity, root, height, count, start, end, row, child}
 use Rattle.model.specs.Tree.{Limit, Open, Below, pairs_from, Level, last, over_pairs, next}
-use Rattle.model.specs.Reading.{Entry, entries, leaf, root_leaf, to_row}
-use Rattle.model.specs.Refusals.{Answer, result}
+use Rattle.model.specs.Reading.{Entry, entries}
+use Rattle.model.specs.Refusals.{result}
 use Rattle.model.specs.WellFormed.{WellFormed}
 use Rattle.model.specs.Ledger.{Range, Ledger, end_from, walk_from, ledger_walk}
 use Rattle.model.specs.LeafWalk.{Stepped, seek, records, is_last, given, next_leaf_of}
@@ -26,7 +26,7 @@ use Rattle.model.proofs.Fill.{length-fill}
 use Rattle.next_records.proofs.Filling.{length-records}
 use Rattle.law_walk.specs.Walking.{LeafAt, leaves_of, store_leaves, leaf_count, pair_of, first_pairs, Gives, ended, one, From}
 use Rattle.next_step.proofs.Stepping.{still}
-use Rattle.law_walk.proofs.Lined.{Good, Lined, Split, chosen_in, first-chosen, lined-good, lined-rest, low_of, own, split}
+use Rattle.law_walk.proofs.Lined.{Good, Lined, chosen_in, first-chosen, lined-good, lined-rest, low_of, own, split}
 use Rattle.law_walk.proofs.Chosen.{leaf_of, store_full, store_lined, store_reach}
 
 -- The records of the leaves are the ledger's --------------------------------------------------------------------

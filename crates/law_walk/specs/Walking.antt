@@ -1,6 +1,6 @@
 -- The leaves of a tree in order, and a whole walk: steps with no change of the store between them.
 use Rattle.std.specs.Prelude.{ℕ, zero, suc, ◌<◌, ◌≤◌, List, [], ◌∷◌, ◌++◌, map, ◌≡◌, ◌⊎◌, length, take}
-use Rattle.model.specs.Words.{store_shape, lent, root, part, height, start}
+use Rattle.model.specs.Words.{store_shape, lent, root, height, start}
 use Rattle.model.specs.Tree.{Limit, Open, Level, over_pairs}
 use Rattle.model.specs.Reading.{root_tree}
 use Rattle.model.specs.Refusals.{result}

@@ -1,13 +1,13 @@
 -- The answers of the step by value, and the definition of next by cases.
-use Prim.Native.Nat.{ℕ, ◌+◌, ◌<◌, ◌≤◌}
+use Prim.Native.Nat.{ℕ, ◌<◌, ◌≤◌}
 use mathlib.Core.List.{List, []}
-use mathlib.Core.Bool.{Bool, true, false}
+use mathlib.Core.Bool.{true, false}
 use mathlib.Core.Path.{◌≡◌, refl, sym, ap, ◌∙◌, subst}
 use native.Mathlib.Omega.{arith}
 use lib.ListN.{length}
 use borrow.Author.Tests.{lt-ltb, le-ltb}
-use Rattle.model.specs.Words.{store_shape, lent, fill, part, count, capacity, pool, root}
-use Rattle.model.specs.Reading.{Reached, unsound, leaf, root_leaf, to_row}
+use Rattle.model.specs.Words.{store_shape, lent, fill, capacity, pool, root}
+use Rattle.model.specs.Reading.{Reached, leaf, root_leaf, to_row}
 use Rattle.model.specs.Refusals.{Answer, result, refused, refusal, next_leaf}
 use Rattle.model.specs.LeafWalk.{Stepped, records, given, next_leaf_of}
 use Rattle.model.specs.declared.id.NodeNo.{NodeNo}

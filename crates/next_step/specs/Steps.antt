@@ -1,7 +1,7 @@
 -- The step by value.
-use Rattle.std.specs.Prelude.{ℕ, ◌<◌, ◌≤◌, List, ◌≡◌, length}
+use Rattle.std.specs.Prelude.{ℕ, ◌≤◌, List, ◌≡◌, length}
 use Rattle.node_read.specs.Layout.{shape_of}
-use Rattle.model.specs.Words.{lent, fill, part, count, start, end}
+use Rattle.model.specs.Words.{lent, fill, count, start, end}
 use Rattle.model.specs.Refusals.{next_leaf}
 use Rattle.model.specs.LeafWalk.{Stepped, cursor_at, is_last, next_leaf_of}
 use Rattle.model.specs.declared.id.NodeNo.{NodeNo}

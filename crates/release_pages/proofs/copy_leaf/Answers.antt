@@ -1,6 +1,5 @@
-use borrow.Author.Tests.{not-true, not-false}
 use Rattle.node_read.proofs.Asked.{leaf-height, branch-height}
-use Prim.Native.Nat.{ℕ, ◌-◌}
+use Prim.Native.Nat.{ℕ}
 use mathlib.Core.Path.{refl, sym, ap, ◌∙◌}
 use native.Mathlib.Omega.{arith}
 use lib.ListN.{length-set}
@@ -42,6 +41,9 @@ shape_of-pages c = c.loop-i.invariant.3
 pub returns : goal.returns
 returns c =
     let a = c.args in
-    let leaf = leaf-height c.header-h.ensures c.is_leaf.ensures c.if-not-is_leaf.false in record { after = omega (arith, c.loop-i.invariant.1, c.loop-i.invariant.2, c.loop-i-test.false, (ap (λ (h : RowPageIndexNodeHeader). h.count) c.header-h.ensures), leaf-length (shape_of a.l) a.s.now a.n.0 leaf); list = sym (c.loop-i.invariant.0 ∙ fill_done (shape_of a.l) a.s.now a.n.0 c.loop-i.pages c.loop-i.place c.loop-i.i _ c.loop-i-test.false)
+    let leaf = leaf-height c.header-h.ensures c.is_leaf.ensures c.if-not-is_leaf.false in record {
+      after = omega (arith, c.loop-i.invariant.1, c.loop-i.invariant.2, c.loop-i-test.false, (ap (λ (h : RowPageIndexNodeHeader). h.count) c.header-h.ensures), leaf-length (shape_of a.l) a.s.now a.n.0 leaf);
+      list = sym (c.loop-i.invariant.0 ∙ fill_done (shape_of a.l) a.s.now a.n.0 c.loop-i.pages c.loop-i.place c.loop-i.i _ c.loop-i-test.false)
           ∙ ap (λ (k : ℕ). fill a.pages.now a.at (pages_from (shape_of a.l) a.s.now a.n.0 0 k)) ((ap (λ (h : RowPageIndexNodeHeader). h.count) c.header-h.ensures))
-          ∙ ap (fill a.pages.now a.at) (sym (leaf-pages (shape_of a.l) a.s.now a.n.0 leaf)) }
+          ∙ ap (fill a.pages.now a.at) (sym (leaf-pages (shape_of a.l) a.s.now a.n.0 leaf));
+    }

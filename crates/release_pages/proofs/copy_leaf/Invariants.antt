@@ -7,7 +7,7 @@ use Rattle.release_pages.specs.Pages.{pages_from}
 use Rattle.release_pages.proofs.copy_leaf.Given as goal
 
 abbrev pub invariant-loop-i : goal.invariant-loop-i
-invariant-loop-i l =     (fill l.initial.pages l.at (pages_from (shape_of l.l) l.s l.n.0 0 l.count) ≡ fill l.pages l.place (pages_from (shape_of l.l) l.s l.n.0 l.i (l.count - l.i))) × (l.place ≡ l.at + l.i) × (l.i ≤ l.count) × (length l.pages ≡ length l.initial.pages)
+invariant-loop-i l = (fill l.initial.pages l.at (pages_from (shape_of l.l) l.s l.n.0 0 l.count) ≡ fill l.pages l.place (pages_from (shape_of l.l) l.s l.n.0 l.i (l.count - l.i))) × (l.place ≡ l.at + l.i) × (l.i ≤ l.count) × (length l.pages ≡ length l.initial.pages)
 
 abbrev pub decreases-loop-i : goal.decreases-loop-i
 decreases-loop-i l = l.count - l.i
