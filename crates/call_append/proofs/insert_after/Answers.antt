@@ -38,3 +38,6 @@ returns-in-Fine c =
     let p = c.requires in
     let q = append-fine (shape_of a.h.layout) a.h.layout.pool a.s.now a.h.root.0 a.count a.page.0 a.last.0 Open _ _ _ (room_of a.free) c.range_start-start.ensures (ap (λ (h : RowPageIndexNodeHeader). h.height) c.header-top.ensures) p.root_lt_pool.2 p.free_value (sym c.test_limits.ensures ∙ c.in-Fine.is) in
     record { answer = c.place_page.ensures.answer ∙ sym (ap (λ (o : Outcome). o.answer) q); words = c.place_page.ensures.words ∙ sym (ap (λ (o : Outcome). o.words) q) }
+
+pub overflow_add-end : goal.overflow_add-end
+overflow_add-end c = omega (arith, (passes _ _ _ _ _ (sym c.test_limits.ensures ∙ c.in-Fine.is)).most)

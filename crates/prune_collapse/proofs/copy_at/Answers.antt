@@ -1,6 +1,5 @@
 use mathlib.Core.Path.{sym, ap, ◌∙◌}
 use native.Mathlib.Omega.{arith}
-use borrow.Author.Tests.{not-true, not-false}
 use Rattle.model.specs.Words.{count}
 use Rattle.model.specs.declared.node.RowPageIndexNodeHeader.{RowPageIndexNodeHeader}
 use Rattle.prune_collapse.proofs.One.{none, far, tested}
@@ -37,10 +36,10 @@ pub returns-then-not-good : goal.returns-then-not-good
 returns-then-not-good c =
     let x = c in
     let k = ap (λ (h : RowPageIndexNodeHeader). h.count) c.header-h.ensures in
-    sym (tested _ _ _ _ _ _ (omega (arith, k, c.if-last-k.false, x.requires.asked.1)) _ _ _ (rw k at c.child-child.ensures) (rw k at c.row-row.ensures) c.is_sound-good.ensures c.if-l-child.false ∙ rw (not-true c.is_sound-good.result c.if-not-good.true))
+    sym (tested _ _ _ _ _ _ (omega (arith, k, c.if-last-k.false, x.requires.asked.1)) _ _ _ (rw k at c.child-child.ensures) (rw k at c.row-row.ensures) c.is_sound-good.ensures c.if-l-child.false ∙ rw c.if-not-good.true)
 
 pub returns : goal.returns
 returns c =
     let x = c in
     let k = ap (λ (h : RowPageIndexNodeHeader). h.count) c.header-h.ensures in
-    sym (tested _ _ _ _ _ _ (omega (arith, k, c.if-last-k.false, x.requires.asked.1)) _ _ _ (rw k at c.child-child.ensures) (rw k at c.row-row.ensures) c.is_sound-good.ensures c.if-l-child.false ∙ rw (not-false c.is_sound-good.result c.if-not-good.false))
+    sym (tested _ _ _ _ _ _ (omega (arith, k, c.if-last-k.false, x.requires.asked.1)) _ _ _ (rw k at c.child-child.ensures) (rw k at c.row-row.ensures) c.is_sound-good.ensures c.if-l-child.false ∙ rw c.if-not-good.false)

@@ -23,7 +23,7 @@ loop-i-preserved c =
     let a = c.args in (
       rw c.free_node.ensures (freed-header (shape_of a.l) a.l.pool c.loop-i.s c.loop-i.invariant.0 _),
       omega (arith, c.loop-i.invariant.1),
-      rw c.free_node.ensures (omega (arith, c.loop-i.invariant.2, c.loop-i-test.true, freed-count (shape_of a.l) c.loop-i.s (get_or a.t3 (c.loop-i.i - 1) (record { 0 = 0 })).0 a.l.pool c.loop-i.invariant.0)),
+      rw c.free_node.ensures (omega (arith, c.loop-i.invariant.2, c.loop-i-test.true, freed-count (shape_of a.l) c.loop-i.s (get_or a.nodes (c.loop-i.i - 1) (record { 0 = 0 })).0 a.l.pool c.loop-i.invariant.0)),
       c.loop-i.invariant.3 ∙ free-last (shape_of a.l) c.loop-i.s _ c.loop-i.i c.loop-i-test.true ∙ rw c.free_node.ensures,
     )
 
@@ -32,4 +32,4 @@ unfolding free_all listed
 returns c =
     let a = c.args in
     let z : c.loop-i.i ≡ 0 = omega (arith, c.loop-i-test.false) in
-    sym (c.loop-i.invariant.3 ∙ ap (λ j. free_all (shape_of a.l) c.loop-i.s (reverse (listed a.t3 0 j))) z)
+    sym (c.loop-i.invariant.3 ∙ ap (λ j. free_all (shape_of a.l) c.loop-i.s (reverse (listed a.nodes 0 j))) z)

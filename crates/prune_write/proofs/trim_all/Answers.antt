@@ -22,7 +22,7 @@ trim_node-requires c =
     let a = c.args in
     let x = c.loop-i in
     let h = c.loop-i-test.true in
-    let e = trims-turn a.t3.positions a.t3.depth x.i h in
+    let e = trims-turn a.edge.positions a.edge.depth x.i h in
     let t = subst (Trims (shape_of a.l) a.l.pool x.s) e x.invariant.2 in
     record { fits = x.invariant.0; n_lt_pool = (t.inside, omega (arith, t.keeps), t.narrow) }
 
@@ -32,7 +32,7 @@ loop-i-preserved c =
     let a = c.args in
     let x = c.loop-i in
     let h = c.loop-i-test.true in
-    let e = trims-turn a.t3.positions a.t3.depth x.i h in
+    let e = trims-turn a.edge.positions a.edge.depth x.i h in
     let t = subst (Trims (shape_of a.l) a.l.pool x.s) e x.invariant.2 in
     let q = trims-next (shape_of a.l) a.l.pool x.s x.invariant.0 _ _ a.end.0 _ t in
     rw c.trim_node.ensures (q.0, omega (arith, h), q.1, x.invariant.3 ∙ ap (trim_all (shape_of a.l) x.s a.end.0) e)
@@ -42,4 +42,4 @@ unfolding trim_all
 returns c =
     let a = c.args in
     let x = c.loop-i in
-    sym (x.invariant.3 ∙ ap (trim_all (shape_of a.l) x.s a.end.0) (trims-stop a.t3.positions a.t3.depth x.i c.loop-i-test.false))
+    sym (x.invariant.3 ∙ ap (trim_all (shape_of a.l) x.s a.end.0) (trims-stop a.edge.positions a.edge.depth x.i c.loop-i-test.false))
