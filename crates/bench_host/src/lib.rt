@@ -1,5 +1,5 @@
-// What the benchmarks of the node test, the walk and the leaf walk call, behind C functions that any words may be handed
-// to. No part of the index; the other calls are measured through crates/host.
+// What the benchmarks of the node test, the walk and the leaf walk call: functions that any words may be handed to, which
+// crates/bench_host_c offers to C. No part of the index; the other calls are measured through crates/host.
 
 #![tactic(auto)]
 

@@ -1,5 +1,6 @@
-// The calls for a host that holds its own store: C functions on lent words. Each writes its answer into a lent array of
-// seven words, as far as they fit, and returns the refusal's number, or 0. docs/HOST.md tells how to call them.
+// The calls for a host that holds its own store: functions on lent words, which crates/host_c offers to C. Each writes its
+// answer into a lent array of seven words, as far as they fit, and returns the refusal's number, or 0. docs/HOST.md tells how
+// to call them.
 
 #![tactic(auto)]
 
