@@ -8,7 +8,7 @@ use native.Mathlib.Omega.{arith}
 use lib.ListN.{length, drop}
 use lib.Dec.{ltb}
 use borrow.Author.Tests.{le-ltb, lt-ltb, ltb-true, ltb-false}
-use Rattle.model.specs.Words.{store_shape, lent, Shape, fill, count, start, end, row, child}
+use Rattle.model.specs.Words.{store_shape, lent, Shape, fill, count, end, row, child}
 use Rattle.model.specs.Tree.{pairs_from}
 use Rattle.model.specs.Reading.{leaf}
 use Rattle.model.specs.Refusals.{Answer, result, refused}

@@ -8,7 +8,6 @@ use Rattle.model.specs.Append.{append_start, room_from, room, firsts, past, chai
 use Rattle.model.specs.Create.{chained, new_store, create}
 use Rattle.model.specs.Cut.{if_gone, keep, cut_pairs, trim, cut, went_pairs, went, trims_pairs, trims, kept}
 use Rattle.model.specs.Ledger.{Range, empty_ledger, end_from, ledger_end, ledger_append}
-use Rattle.model.specs.LeafWalk.{records}
 use Rattle.model.specs.Lookup.{found_in, find_in_tree, try_find_row}
 use Rattle.model.specs.Prune.{moved, trimmed, trim_all, copy_all, prune_tree, against, entry_end, scan_leaf, spoilt, scan, ran_out, before, at_last, copies_from, root_copies, prune_with, prune_scanned, prune_root, prune_checkpoint_prefix}
 use Rattle.model.specs.Reading.{end_fits, passes, visits, root_visits, first_bad, entries, in_pairs, nodes, occ, next_row, checked, descend, root_leaf, last_not_above}
