@@ -16,7 +16,7 @@ pub struct Read {
     pub failed: bool,
 }
 
-// Waits a millisecond, or until a signal comes.
+// Waits a millisecond.
 fn pause(clock: &impl Clock) {
     thread::sleep(clock, Duration::from_millis(1));
 }
