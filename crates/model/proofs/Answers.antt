@@ -6,20 +6,13 @@ use lib.ListN.{get_or}
 use Rattle.model.specs.Refusals.{Answer, result, refused, refusal, created, location, inserted, pruned, next_leaf, destroyed, checked_answer}
 use Rattle.model.specs.declared.answer.Refusal.{Refusal}
 use Rattle.model.specs.declared.answer.Refusal.TheVariants as R
-use Rattle.model.specs.declared.answer.Created.{Created}
-use Rattle.model.specs.declared.answer.Created.TheVariants as Cr
-use Rattle.model.specs.declared.answer.RowLocation.{RowLocation}
-use Rattle.model.specs.declared.answer.RowLocation.TheVariants as L
-use Rattle.model.specs.declared.answer.Inserted.{Inserted}
-use Rattle.model.specs.declared.answer.Inserted.TheVariants as I
-use Rattle.model.specs.declared.answer.Pruned.{Pruned}
-use Rattle.model.specs.declared.answer.Pruned.TheVariants as Pr
-use Rattle.model.specs.declared.answer.NextLeaf.{NextLeaf}
-use Rattle.model.specs.declared.answer.NextLeaf.TheVariants as N
-use Rattle.model.specs.declared.answer.Destroyed.{Destroyed}
-use Rattle.model.specs.declared.answer.Destroyed.TheVariants as D
-use Rattle.model.specs.declared.answer.Checked.{Checked}
-use Rattle.model.specs.declared.answer.Checked.TheVariants as Ch
+use Rattle.model.specs.declared.answer.RowPageIndexInsert.{RowPageIndexInsert}
+use Rattle.model.specs.declared.answer.RowPagePrefixPrune.{RowPagePrefixPrune}
+use Rattle.model.specs.declared.answer.Leaf.{Leaf}
+use Rattle.model.specs.declared.answer.Released.{Released}
+use Rattle.model.specs.declared.answer.WellFormed.{WellFormed}
+use Rattle.model.specs.declared.id.PageID.{PageID}
+use Rattle.std.specs.Prelude.{Option, Some, None, Result, Ok, Err}
 
 -- A refusal is a number and a detail, and no result.
 pub record IsRefusal (a : Answer) : Type 0 where
@@ -80,76 +73,76 @@ one f g back a b e = sym (back a) ∙ ap g e ∙ back b
 pub refusal-one : (a b : Refusal) → refusal a ≡ refusal b → a ≡ b
 refusal-one = one (λ r. refusal r) (from (λ l. R.Closed) (λ r. r)) (from-refusal (λ l. R.Closed) (λ r. r))
 
-pub created-one : (a b : Created) → created a ≡ created b → a ≡ b
-created-one = one (λ a. created a) (from values (λ r. Cr.Refused r)) back
+pub created-one : (a b : Result Unit Refusal) → created a ≡ created b → a ≡ b
+created-one = one (λ a. created a) (from values (λ r. Err r)) back
   where
-    values : List ℕ → Created
-    values l = Cr.Done
+    values : List ℕ → Result Unit Refusal
+    values l = Ok tt
 
-    back : (a : Created) → from values (λ r. Cr.Refused r) (created a) ≡ a
-    back Cr.Done = refl
-    back (Cr.Refused r) = from-refusal values (λ r. Cr.Refused r) r
+    back : (a : Result Unit Refusal) → from values (λ r. Err r) (created a) ≡ a
+    back (Ok tt) = refl
+    back (Err r) = from-refusal values (λ r. Err r) r
 
-pub location-one : (a b : RowLocation) → location a ≡ location b → a ≡ b
-location-one = one (λ a. location a) (from values (λ r. L.Refused r)) back
+pub location-one : (a b : Result (Option PageID) Refusal) → location a ≡ location b → a ≡ b
+location-one = one (λ a. location a) (from values (λ r. Err r)) back
   where
-    values : List ℕ → RowLocation
-    values [] = L.NotFound
-    values (p ∷ l) = L.RowPage (record { 0 = p })
+    values : List ℕ → Result (Option PageID) Refusal
+    values [] = Ok None
+    values (p ∷ l) = Ok (Some (record { 0 = p }))
 
-    back : (a : RowLocation) → from values (λ r. L.Refused r) (location a) ≡ a
-    back (L.RowPage p) = refl
-    back L.NotFound = refl
-    back (L.Refused r) = from-refusal values (λ r. L.Refused r) r
+    back : (a : Result (Option PageID) Refusal) → from values (λ r. Err r) (location a) ≡ a
+    back (Ok (Some p)) = refl
+    back (Ok None) = refl
+    back (Err r) = from-refusal values (λ r. Err r) r
 
-pub inserted-one : (a b : Inserted) → inserted a ≡ inserted b → a ≡ b
-inserted-one = one (λ a. inserted a) (from values (λ r. I.Refused r)) back
+pub inserted-one : (a b : Result RowPageIndexInsert Refusal) → inserted a ≡ inserted b → a ≡ b
+inserted-one = one (λ a. inserted a) (from values (λ r. Err r)) back
   where
-    values : List ℕ → Inserted
-    values l = I.Done (record { start_row_id = record { 0 = get_or l 0 0 }; end_row_id = record { 0 = get_or l 1 0 }; taken_nodes = get_or l 2 0 })
+    values : List ℕ → Result RowPageIndexInsert Refusal
+    values l = Ok (record { start_row_id = record { 0 = get_or l 0 0 }; end_row_id = record { 0 = get_or l 1 0 }; taken_nodes = get_or l 2 0 })
 
-    back : (a : Inserted) → from values (λ r. I.Refused r) (inserted a) ≡ a
-    back (I.Done i) = refl
-    back (I.Refused r) = from-refusal values (λ r. I.Refused r) r
+    back : (a : Result RowPageIndexInsert Refusal) → from values (λ r. Err r) (inserted a) ≡ a
+    back (Ok i) = refl
+    back (Err r) = from-refusal values (λ r. Err r) r
 
-pub pruned-one : (a b : Pruned) → pruned a ≡ pruned b → a ≡ b
-pruned-one = one (λ a. pruned a) (from values (λ r. Pr.Refused r)) back
+pub pruned-one : (a b : Result RowPagePrefixPrune Refusal) → pruned a ≡ pruned b → a ≡ b
+pruned-one = one (λ a. pruned a) (from values (λ r. Err r)) back
   where
-    values : List ℕ → Pruned
-    values l = Pr.Done (record { removed_entries = get_or l 0 0; reclaimed_nodes = get_or l 1 0; collapsed_levels = get_or l 2 0 })
+    values : List ℕ → Result RowPagePrefixPrune Refusal
+    values l = Ok (record { removed_entries = get_or l 0 0; reclaimed_nodes = get_or l 1 0; collapsed_levels = get_or l 2 0 })
 
-    back : (a : Pruned) → from values (λ r. Pr.Refused r) (pruned a) ≡ a
-    back (Pr.Done p) = refl
-    back (Pr.Refused r) = from-refusal values (λ r. Pr.Refused r) r
+    back : (a : Result RowPagePrefixPrune Refusal) → from values (λ r. Err r) (pruned a) ≡ a
+    back (Ok p) = refl
+    back (Err r) = from-refusal values (λ r. Err r) r
 
-pub next-leaf-one : (a b : NextLeaf) → next_leaf a ≡ next_leaf b → a ≡ b
-next-leaf-one = one (λ a. next_leaf a) (from values (λ r. N.Refused r)) back
+pub next-leaf-one : (a b : Result (Option Leaf) Refusal) → next_leaf a ≡ next_leaf b → a ≡ b
+next-leaf-one = one (λ a. next_leaf a) (from values (λ r. Err r)) back
   where
-    values : List ℕ → NextLeaf
-    values [] = N.Done
-    values (s ∷ l) = N.Found (record { start_row_id = record { 0 = s }; end_row_id = record { 0 = get_or l 0 0 }; count = get_or l 1 0 })
+    values : List ℕ → Result (Option Leaf) Refusal
+    values [] = Ok None
+    values (s ∷ l) = Ok (Some (record { start_row_id = record { 0 = s }; end_row_id = record { 0 = get_or l 0 0 }; count = get_or l 1 0 }))
 
-    back : (a : NextLeaf) → from values (λ r. N.Refused r) (next_leaf a) ≡ a
-    back (N.Found l) = refl
-    back N.Done = refl
-    back (N.Refused r) = from-refusal values (λ r. N.Refused r) r
+    back : (a : Result (Option Leaf) Refusal) → from values (λ r. Err r) (next_leaf a) ≡ a
+    back (Ok (Some l)) = refl
+    back (Ok None) = refl
+    back (Err r) = from-refusal values (λ r. Err r) r
 
-pub destroyed-one : (a b : Destroyed) → destroyed a ≡ destroyed b → a ≡ b
-destroyed-one = one (λ a. destroyed a) (from values (λ r. D.Refused r)) back
+pub destroyed-one : (a b : Result Released Refusal) → destroyed a ≡ destroyed b → a ≡ b
+destroyed-one = one (λ a. destroyed a) (from values (λ r. Err r)) back
   where
-    values : List ℕ → Destroyed
-    values l = D.Done (get_or l 0 0) (get_or l 1 0)
+    values : List ℕ → Result Released Refusal
+    values l = Ok (record { nodes = get_or l 0 0; pages = get_or l 1 0 })
 
-    back : (a : Destroyed) → from values (λ r. D.Refused r) (destroyed a) ≡ a
-    back (D.Done nodes pages) = refl
-    back (D.Refused r) = from-refusal values (λ r. D.Refused r) r
+    back : (a : Result Released Refusal) → from values (λ r. Err r) (destroyed a) ≡ a
+    back (Ok d) = refl
+    back (Err r) = from-refusal values (λ r. Err r) r
 
-pub checked-one : (a b : Checked) → checked_answer a ≡ checked_answer b → a ≡ b
-checked-one = one (λ a. checked_answer a) (from values (λ r. Ch.Refused r)) back
+pub checked-one : (a b : Result WellFormed Refusal) → checked_answer a ≡ checked_answer b → a ≡ b
+checked-one = one (λ a. checked_answer a) (from values (λ r. Err r)) back
   where
-    values : List ℕ → Checked
-    values l = Ch.WellFormed (get_or l 0 0) (get_or l 1 0) (get_or l 2 0)
+    values : List ℕ → Result WellFormed Refusal
+    values l = Ok (record { entries = get_or l 0 0; nodes = get_or l 1 0; free = get_or l 2 0 })
 
-    back : (a : Checked) → from values (λ r. Ch.Refused r) (checked_answer a) ≡ a
-    back (Ch.WellFormed entries nodes free) = refl
-    back (Ch.Refused r) = from-refusal values (λ r. Ch.Refused r) r
+    back : (a : Result WellFormed Refusal) → from values (λ r. Err r) (checked_answer a) ≡ a
+    back (Ok c) = refl
+    back (Err r) = from-refusal values (λ r. Err r) r

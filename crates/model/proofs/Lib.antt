@@ -13,3 +13,4 @@ pub mod Writes
 pub mod Answers
 pub mod Fill
 pub mod Still
+pub mod Order

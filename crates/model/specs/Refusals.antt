@@ -1,22 +1,14 @@
 -- 01, "Refusals, a number and a detail": what a call answers, and the checks that every call but create begins with.
-use Rattle.std.specs.Prelude.{ℕ, List, [], ◌∷◌, Bool, ◌&&◌, length, leb, eqb}
+use Rattle.std.specs.Prelude.{ℕ, List, [], ◌∷◌, Bool, ◌&&◌, Option, Some, None, Result, Ok, Err, length, leb, eqb}
 use Rattle.model.specs.Words.{pick, capacity, pool, root, free_head, free_count, sized}
 use Rattle.model.specs.declared.answer.Refusal.{Refusal}
 use Rattle.model.specs.declared.answer.Refusal.TheVariants as R
-use Rattle.model.specs.declared.answer.Created.{Created}
-use Rattle.model.specs.declared.answer.Created.TheVariants as Cr
-use Rattle.model.specs.declared.answer.RowLocation.{RowLocation}
-use Rattle.model.specs.declared.answer.RowLocation.TheVariants as L
-use Rattle.model.specs.declared.answer.Inserted.{Inserted}
-use Rattle.model.specs.declared.answer.Inserted.TheVariants as I
-use Rattle.model.specs.declared.answer.Pruned.{Pruned}
-use Rattle.model.specs.declared.answer.Pruned.TheVariants as Pr
-use Rattle.model.specs.declared.answer.NextLeaf.{NextLeaf}
-use Rattle.model.specs.declared.answer.NextLeaf.TheVariants as N
-use Rattle.model.specs.declared.answer.Destroyed.{Destroyed}
-use Rattle.model.specs.declared.answer.Destroyed.TheVariants as D
-use Rattle.model.specs.declared.answer.Checked.{Checked}
-use Rattle.model.specs.declared.answer.Checked.TheVariants as Ch
+use Rattle.model.specs.declared.answer.RowPageIndexInsert.{RowPageIndexInsert}
+use Rattle.model.specs.declared.answer.RowPagePrefixPrune.{RowPagePrefixPrune}
+use Rattle.model.specs.declared.answer.Leaf.{Leaf}
+use Rattle.model.specs.declared.answer.Released.{Released}
+use Rattle.model.specs.declared.answer.WellFormed.{WellFormed}
+use Rattle.model.specs.declared.id.PageID.{PageID}
 
 -- what a call answers: the values that 01 names for it, or a refusal's number and detail
 pub data Answer : Type 0 where
@@ -59,38 +51,38 @@ refusal (R.ListTooLong held) = refused 11 held
 refusal (R.RowBelowPivot row) = refused 12 row.0
 refusal (R.ListTooShort wanted) = refused 13 wanted
 
-abbrev pub created : Created → Answer
-created Cr.Done = result []
-created (Cr.Refused r) = refusal r
+abbrev pub created : Result Unit Refusal → Answer
+created (Ok u) = result []
+created (Err r) = refusal r
 
 -- the page, or none
-abbrev pub location : RowLocation → Answer
-location (L.RowPage p) = result (p.0 ∷ [])
-location L.NotFound = result []
-location (L.Refused r) = refusal r
+abbrev pub location : Result (Option PageID) Refusal → Answer
+location (Ok (Some p)) = result (p.0 ∷ [])
+location (Ok None) = result []
+location (Err r) = refusal r
 
 -- "Answer: start, end, nodes taken."
-abbrev pub inserted : Inserted → Answer
-inserted (I.Done i) = result (i.start_row_id.0 ∷ i.end_row_id.0 ∷ i.taken_nodes ∷ [])
-inserted (I.Refused r) = refusal r
+abbrev pub inserted : Result RowPageIndexInsert Refusal → Answer
+inserted (Ok i) = result (i.start_row_id.0 ∷ i.end_row_id.0 ∷ i.taken_nodes ∷ [])
+inserted (Err r) = refusal r
 
 -- "Answer: entries removed, nodes freed, levels collapsed"
-abbrev pub pruned : Pruned → Answer
-pruned (Pr.Done p) = result (p.removed_entries ∷ p.reclaimed_nodes ∷ p.collapsed_levels ∷ [])
-pruned (Pr.Refused r) = refusal r
+abbrev pub pruned : Result RowPagePrefixPrune Refusal → Answer
+pruned (Ok p) = result (p.removed_entries ∷ p.reclaimed_nodes ∷ p.collapsed_levels ∷ [])
+pruned (Err r) = refusal r
 
 -- "Next gives start, end and count of the leaf reached", or none
-abbrev pub next_leaf : NextLeaf → Answer
-next_leaf (N.Found l) = result (l.start_row_id.0 ∷ l.end_row_id.0 ∷ l.count ∷ [])
-next_leaf N.Done = result []
-next_leaf (N.Refused r) = refusal r
+abbrev pub next_leaf : Result (Option Leaf) Refusal → Answer
+next_leaf (Ok (Some l)) = result (l.start_row_id.0 ∷ l.end_row_id.0 ∷ l.count ∷ [])
+next_leaf (Ok None) = result []
+next_leaf (Err r) = refusal r
 
 -- "Answer: nodes freed, pages."
-abbrev pub destroyed : Destroyed → Answer
-destroyed (D.Done nodes pages) = result (nodes ∷ pages ∷ [])
-destroyed (D.Refused r) = refusal r
+abbrev pub destroyed : Result Released Refusal → Answer
+destroyed (Ok d) = result (d.nodes ∷ d.pages ∷ [])
+destroyed (Err r) = refusal r
 
 -- "reports entries, tree nodes and free nodes"
-abbrev pub checked_answer : Checked → Answer
-checked_answer (Ch.WellFormed entries nodes free) = result (entries ∷ nodes ∷ free ∷ [])
-checked_answer (Ch.Refused r) = refusal r
+abbrev pub checked_answer : Result WellFormed Refusal → Answer
+checked_answer (Ok c) = result (c.entries ∷ c.nodes ∷ c.free ∷ [])
+checked_answer (Err r) = refusal r

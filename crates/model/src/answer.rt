@@ -1,9 +1,9 @@
-// What each call answers. specs/Refusals.antt gives each case its number and values.
+// What each call answers: a value, or why it was refused. specs/Refusals.antt gives each case its number and values.
 
 use crate::id::{NodeNo, PageID, RowID};
 
 // Why a call was refused. Nothing that was lent has changed.
-#[derive(Clone, Copy)]
+#[derive(Clone, Copy, PartialEq, Eq)]
 pub enum Refusal {
     // 1: capacity, number of nodes or length of a new store
     BadParameters,
@@ -33,75 +33,56 @@ pub enum Refusal {
     ListTooShort(u64),
 }
 
-// Of `new`.
-#[derive(Clone, Copy)]
-pub enum Created {
-    Done,
-    Refused(Refusal),
+// The first unsound node that was read: why a part of a call that only reads nodes fails.
+#[derive(Clone, Copy, PartialEq, Eq)]
+pub struct UnsoundNode(pub NodeNo);
+
+impl From<UnsoundNode> for Refusal {
+    ghost use Rattle.std.specs.Prelude.{◌≡◌};
+    ghost use Rattle.model.specs.declared.answer.Refusal.TheVariants.{Unsound};
+
+    ghost from_gives = { λ u r. r ≡ Unsound u.0 };
+
+    fn from(u: UnsoundNode) -> Refusal {
+        Refusal::Unsound(u.0)
+    }
 }
 
-// Of `try_find_row`.
-#[derive(Clone, Copy)]
-pub enum RowLocation {
-    RowPage(PageID),
-    NotFound,
-    Refused(Refusal),
-}
-
-// The rows of an appended page, and the nodes that it took.
-#[derive(Clone, Copy)]
+// Of `insert_row_page`: the rows of an appended page, and the nodes that it took.
+#[derive(Clone, Copy, PartialEq, Eq)]
 pub struct RowPageIndexInsert {
     pub start_row_id: RowID,
     pub end_row_id: RowID,
     pub taken_nodes: u64,
 }
 
-// Of `insert_row_page`.
-#[derive(Clone, Copy)]
-pub enum Inserted {
-    Done(RowPageIndexInsert),
-    Refused(Refusal),
-}
-
-#[derive(Clone, Copy)]
+// Of `prune_checkpoint_prefix`.
+#[derive(Clone, Copy, PartialEq, Eq)]
 pub struct RowPagePrefixPrune {
     pub removed_entries: u64,
     pub reclaimed_nodes: u64,
     pub collapsed_levels: u64,
 }
 
-// Of `prune_checkpoint_prefix`.
-#[derive(Clone, Copy)]
-pub enum Pruned {
-    Done(RowPagePrefixPrune),
-    Refused(Refusal),
-}
-
-#[derive(Clone, Copy)]
+// Of the cursor's `next`: a leaf.
+#[derive(Clone, Copy, PartialEq, Eq)]
 pub struct Leaf {
     pub start_row_id: RowID,
     pub end_row_id: RowID,
     pub count: u64,
 }
 
-// Of the cursor's `next`.
-#[derive(Clone, Copy)]
-pub enum NextLeaf {
-    Found(Leaf),
-    Done,
-    Refused(Refusal),
-}
-
 // Of `destroy` and `destroy_empty`.
-#[derive(Clone, Copy)]
-pub enum Destroyed {
-    Done { nodes: u64, pages: u64 },
-    Refused(Refusal),
+#[derive(Clone, Copy, PartialEq, Eq)]
+pub struct Released {
+    pub nodes: u64,
+    pub pages: u64,
 }
 
 // Of the full check.
-#[derive(Clone, Copy)]
-pub enum Checked {
-    WellFormed { entries: u64, nodes: u64, free: u64 },
-    Refused(Refusal),
+#[derive(Clone, Copy, PartialEq, Eq)]
+pub struct WellFormed {
+    pub entries: u64,
+    pub nodes: u64,
+    pub free: u64,
 }

@@ -6,7 +6,7 @@ ghost use Rattle.model.specs.LeafWalk.{unsought};
 use crate::id::RowID;
 
 // The row that the next leaf is reached for. A cursor that is done gives none until it is sought again.
-#[derive(Clone, Copy)]
+#[derive(Clone, Copy, PartialEq, Eq)]
 pub struct RowPageIndexMemCursor {
     pub row_id: RowID,
     pub done: bool,

@@ -1,18 +1,18 @@
 // Numbers that must not be mixed up.
 
 // A row of the table.
-#[derive(Clone, Copy)]
+#[derive(Clone, Copy, PartialEq, Eq, PartialOrd, Ord)]
 pub struct RowID(pub u64);
 
 // A page of rows.
-#[derive(Clone, Copy)]
+#[derive(Clone, Copy, PartialEq, Eq, PartialOrd, Ord)]
 pub struct PageID(pub u64);
 
 // A node of the pool.
-#[derive(Clone, Copy)]
+#[derive(Clone, Copy, PartialEq, Eq, PartialOrd, Ord)]
 pub struct NodeNo(pub u64);
 
 impl NodeNo {
     // Stands for the header, the chain or the free count in a refusal: no node has it.
-    pub const HEADER: u64 = 65535;
+    pub const HEADER: NodeNo = NodeNo(65535);
 }

@@ -7,7 +7,7 @@ ghost use Rattle.model.specs.LeafWalk.{page_entry};
 use crate::id::{PageID, RowID};
 
 // The four words before a node's pairs.
-#[derive(Clone, Copy)]
+#[derive(Clone, Copy, PartialEq, Eq)]
 pub struct RowPageIndexNodeHeader {
     pub height: u64,
     pub count: u64,
@@ -68,7 +68,7 @@ impl RowPageIndexNodeHeader {
 }
 
 // An entry of a leaf: the first row of a page, and the page.
-#[derive(Clone, Copy)]
+#[derive(Clone, Copy, PartialEq, Eq)]
 pub struct PageEntry {
     pub row_id: RowID,
     pub page_id: PageID,

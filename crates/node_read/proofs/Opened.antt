@@ -14,19 +14,19 @@ use Rattle.model.proofs.Tests.{by_test}
 use Rattle.model.specs.declared.answer.Refusal.TheVariants.{Closed, Unsound}
 use Rattle.node_read.specs.Layout.{store_header, opened}
 use Rattle.node_read.specs.declared.header.StoreHeader.{StoreHeader}
-use Rattle.node_read.specs.declared.header.Opened.TheVariants.{Open, Refused}
+use Rattle.std.specs.Prelude.{Result, Ok, Err}
 use Rattle.model.proofs.Header.{header_of}
 
 module _ (w : List ℕ) where
-  pub opened-damaged : header_ok w ≡ false → opened w ≡ Refused (Unsound (record { 0 = 65535 }))
+  pub opened-damaged : header_ok w ≡ false → opened w ≡ Err (Unsound (record { 0 = 65535 }))
   unfolding opened
   opened-damaged e = rw e
 
-  pub opened-closed : header_ok w ≡ true → root w ≡ pool w → opened w ≡ Refused Closed
+  pub opened-closed : header_ok w ≡ true → root w ≡ pool w → opened w ≡ Err Closed
   unfolding opened
   opened-closed e c = rw (e, eq-eqb (root w) (pool w) c)
 
-  pub opened_open : header_ok w ≡ true → (root w ≡ pool w → ⊥) → opened w ≡ Open (store_header w)
+  pub opened_open : header_ok w ≡ true → (root w ≡ pool w → ⊥) → opened w ≡ Ok (store_header w)
   unfolding opened
   opened_open e c = rw (e, ne_eqb (root w) (pool w) c)
 
@@ -45,13 +45,13 @@ pub record IsOpen (w : List ℕ) (h : StoreHeader) : Type 0 where
   pub not-closed : eqb (root w) (pool w) ≡ false
 
 module _ (w : List ℕ) where
-  pub is_open : (h : StoreHeader) → opened w ≡ Open h → IsOpen w h
+  pub is_open : (h : StoreHeader) → opened w ≡ Ok h → IsOpen w h
   unfolding opened
   is_open h e =
       by_test (header_ok w)
       (λ t. by_test (eqb (root w) (pool w))
-      (λ u. let q : Refused Closed ≡ Open h = rw (t, u) at e in let z : ◌≡◌ {A = ℕ} 0 1 = cc in absurd (omega arith))
-      (λ u. let q : Open (store_header w) ≡ Open h = rw (t, u) at e in
+      (λ u. let q : ◌≡◌ {A = Result StoreHeader Refusal} (Err Closed) (Ok h) = rw (t, u) at e in let z : ◌≡◌ {A = ℕ} 0 1 = cc in absurd (omega arith))
+      (λ u. let q : Ok (store_header w) ≡ Ok h = rw (t, u) at e in
       let p = header_of w t in
       record {
         header_is = cc;
@@ -62,16 +62,16 @@ module _ (w : List ℕ) where
         passes = t;
         not-closed = u;
       }))
-      (λ t. let q : Refused (Unsound (record { 0 = 65535 })) ≡ Open h = rw t at e in let z : ◌≡◌ {A = ℕ} 0 1 = cc in absurd (omega arith))
+      (λ t. let q : Err (Unsound (record { 0 = 65535 })) ≡ Ok h = rw t at e in let z : ◌≡◌ {A = ℕ} 0 1 = cc in absurd (omega arith))
 
-  pub is-refused : (r : Refusal) → opened w ≡ Refused r → {A : Type 0} (refuse : Answer → A) (a : A) → when_open w refuse a ≡ refuse (refusal r)
+  pub is-refused : (r : Refusal) → opened w ≡ Err r → {A : Type 0} (refuse : Answer → A) (a : A) → when_open w refuse a ≡ refuse (refusal r)
   unfolding opened
   is-refused r e refuse a =
       by_test (header_ok w)
       (λ t. by_test (eqb (root w) (pool w))
-      (λ u. let q : Refused Closed ≡ Refused r = rw (t, u) at e in let d : Closed ≡ r = cc in rw (t, u, ← d))
-      (λ u. let q : Open (store_header w) ≡ Refused r = rw (t, u) at e in let z : ◌≡◌ {A = ℕ} 0 1 = cc in absurd (omega arith)))
-      (λ t. let q : Refused (Unsound (record { 0 = 65535 })) ≡ Refused r = rw t at e in let d : Unsound (record { 0 = 65535 }) ≡ r = cc in rw (t, ← d))
+      (λ u. let q : Err Closed ≡ Err r = rw (t, u) at e in let d : Closed ≡ r = cc in rw (t, u, ← d))
+      (λ u. let q : Ok (store_header w) ≡ Err r = rw (t, u) at e in let z : ◌≡◌ {A = ℕ} 0 1 = cc in absurd (omega arith)))
+      (λ t. let q : Err (Unsound (record { 0 = 65535 })) ≡ Err r = rw t at e in let d : Unsound (record { 0 = 65535 }) ≡ r = cc in rw (t, ← d))
 
   pub goes_on : (h : StoreHeader) → IsOpen w h → {A : Type 0} (refuse : Answer → A) (a : A) → when_open w refuse a ≡ a
   goes_on h o refuse a = rw (o.passes, o.not-closed)

@@ -1,13 +1,12 @@
 -- What the reading functions answer, on words.
-use Rattle.std.specs.Prelude.{ℕ, List, eqb}
+use Rattle.std.specs.Prelude.{ℕ, List, Result, Ok, Err, eqb}
 use Rattle.model.specs.Words.{lent, Shape, shape, pick, capacity, pool, root, free_head, free_count, height, count, start, end, Header}
 use Rattle.model.specs.Refusals.{header_ok}
 use Rattle.model.specs.declared.node.RowPageIndexNodeHeader.{RowPageIndexNodeHeader}
+use Rattle.model.specs.declared.answer.Refusal.{Refusal}
 use Rattle.model.specs.declared.answer.Refusal.TheVariants.{Closed, Unsound}
 use Rattle.node_read.specs.declared.layout.Layout.{Layout}
 use Rattle.node_read.specs.declared.header.StoreHeader.{StoreHeader}
-use Rattle.node_read.specs.declared.header.Opened.{Opened}
-use Rattle.node_read.specs.declared.header.Opened.TheVariants.{Open, Refused}
 
 -- the shape of a lent store
 abbrev pub shape_of : Layout → Shape
@@ -36,7 +35,7 @@ store_header w =
     }
 
 -- "2 for the header, then 3"
-unfoldable pub opened : List ℕ → Opened
+unfoldable pub opened : List ℕ → Result StoreHeader Refusal
 opened w =
-    let passed = pick (eqb (root w) (pool w)) (Refused Closed) (Open (store_header w)) in
-    pick (header_ok w) passed (Refused (Unsound (record { 0 = 65535 })))
+    let passed = pick (eqb (root w) (pool w)) (Err Closed) (Ok (store_header w)) in
+    pick (header_ok w) passed (Err (Unsound (record { 0 = 65535 })))

@@ -17,12 +17,6 @@ pub struct StoreHeader {
     pub free_count: u64,
 }
 
-#[derive(Clone, Copy)]
-pub enum Opened {
-    Open(StoreHeader),
-    Refused(Refusal),
-}
-
 // Whether capacity, pool and length fit, and the other words are at most the pool.
 fn header_ok(s: &[u64]) -> bool
     ensures { result ≡ header_ok s.now }
@@ -35,8 +29,7 @@ fn header_ok(s: &[u64]) -> bool
         capacity: s[0],
         pool,
     };
-    let fits = l.fits(s);
-    if !fits {
+    if !l.fits(s) {
         return false;
     }
     if pool < s[2] {
@@ -49,20 +42,19 @@ fn header_ok(s: &[u64]) -> bool
 }
 
 // The header of an open store; or refusal 2, then 3.
-pub fn open(s: &[u64]) -> Opened
+pub fn open(s: &[u64]) -> Result<StoreHeader, Refusal>
     ensures { result ≡ opened s.now }
 {
-    let fits = header_ok(s);
-    if !fits {
-        return Opened::Refused(Refusal::Unsound(NodeNo(NodeNo::HEADER)));
+    if !header_ok(s) {
+        return Err(Refusal::Unsound(NodeNo::HEADER));
     }
     let capacity = s[0];
     let pool = s[1];
     let root = s[2];
     if root == pool {
-        return Opened::Refused(Refusal::Closed);
+        return Err(Refusal::Closed);
     }
-    Opened::Open(StoreHeader {
+    Ok(StoreHeader {
         layout: Layout { capacity, pool },
         root: NodeNo(root),
         free_head: NodeNo(s[3]),

@@ -11,7 +11,7 @@ returns-then-s-lt8 c = sym (header-not c.args.s.now (λ p. omega arith))
 
 pub returns-then-not-fits : goal.returns-then-not-fits
 unfolding header_ok
-returns-then-not-fits c = rw (sym c.fits-fits.ensures ∙ c.if-not-fits.true)
+returns-then-not-fits c = rw (sym c.fits.ensures ∙ c.if-not-fits.true)
 
 pub returns-then-pool-s : goal.returns-then-pool-s
 returns-then-pool-s c = sym (header-not c.args.s.now (λ p. omega arith))
@@ -23,5 +23,5 @@ pub returns : goal.returns
 unfolding header_ok
 returns c =
     let w = c.args.s.now in
-    let sized = sym c.fits-fits.ensures ∙ c.if-not-fits.false in
+    let sized = sym c.fits.ensures ∙ c.if-not-fits.false in
     rw (sized, le-leb (root w) (pool w) c.if-pool-s.false, le-leb (free_head w) (pool w) c.if-pool-s-2.false)
