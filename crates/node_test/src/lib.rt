@@ -102,7 +102,14 @@ fn first_out(l: Layout, s: &[u64], n: NodeNo, count: u64) -> u64
 }
 
 // Whether node n is sound at this height, under an entry of this row.
-pub fn is_sound(l: Layout, s: &[u64], n: NodeNo, height: u64, row: RowID, next: Option<RowID>) -> bool
+pub fn is_sound(
+    l: Layout,
+    s: &[u64],
+    n: NodeNo,
+    height: u64,
+    row: RowID,
+    next: Option<RowID>,
+) -> bool
     requires fits { Fits l s.now }
     requires n_lt_pool { n.0 < l.pool }
     ensures { result ≡ sound (shape_of l) height (node_at (shape_of l) s.now n.0) row.0 (limit_of next) }
@@ -134,7 +141,14 @@ pub fn is_sound(l: Layout, s: &[u64], n: NodeNo, height: u64, row: RowID, next: 
 // The node test: all rows, then all child numbers. Of a sound node it gives the first of its child numbers that is out of range:
 // the count where none is.
 #[tactic(auto, unfolding(crate::specs::Test::node_test))]
-pub fn test_node(l: Layout, s: &[u64], n: NodeNo, height: u64, row: RowID, next: Option<RowID>) -> Option<u64>
+pub fn test_node(
+    l: Layout,
+    s: &[u64],
+    n: NodeNo,
+    height: u64,
+    row: RowID,
+    next: Option<RowID>,
+) -> Option<u64>
     requires fits { Fits l s.now }
     requires n_lt_pool { n.0 < l.pool }
     ensures { result ≡ node_test (shape_of l) l.pool s.now n.0 height row.0 (limit_of next) }
