@@ -4,7 +4,7 @@
 
 ghost use Rattle.std.specs.Prelude.{◌≤◌};
 
-use model::answer::NextLeaf;
+use model::answer::{Leaf, Refusal};
 use model::cursor::RowPageIndexMemCursor;
 use model::id::RowID;
 use model::node::PageEntry;
@@ -12,7 +12,7 @@ use model::node::PageEntry;
 // What a call leaves. No leaf has more entries than the list has records.
 #[derive(Clone, Copy)]
 pub struct LentStep {
-    pub answer: NextLeaf,
+    pub answer: Result<Option<Leaf>, Refusal>,
     pub cursor: RowPageIndexMemCursor,
     pub list: [PageEntry; 4094],
 }
