@@ -40,28 +40,28 @@ told_by n (refused m d) h e =
     let l : five_of n ≡ take 5 (d ∷ [] ++ zeros) = cc in
     rw (x, l, ne_eqb m 0 (λ z. omega (arith, ltb-true 0 m h)))
 
-encodes : {n : Numbers} {a : Answer} → fits a ≡ true → words_of n ≡ answer_words a → Encodes n a
+pub encodes : {n : Numbers} {a : Answer} → fits a ≡ true → words_of n ≡ answer_words a → Encodes n a
 encodes {n} {a} h e = record { answer = told_by n a h e; words = e }
 
-fits_refusal : (r : Refusal) → fits (refusal r) ≡ true
-fits_refusal R.BadParameters = refl
-fits_refusal (R.Unsound n) = refl
-fits_refusal R.Closed = refl
-fits_refusal R.RowLimit = refl
-fits_refusal (R.NoRoom needed) = refl
-fits_refusal R.HeightLimit = refl
-fits_refusal R.NoPrefix = refl
-fits_refusal (R.StartDiffers start) = refl
-fits_refusal (R.PageDiffers place) = refl
-fits_refusal (R.EndDiffers place) = refl
-fits_refusal (R.ListTooLong held) = refl
-fits_refusal (R.RowBelowPivot row) = refl
-fits_refusal (R.ListTooShort wanted) = refl
+pub refusal-fits : (r : Refusal) → fits (refusal r) ≡ true
+refusal-fits R.BadParameters = refl
+refusal-fits (R.Unsound n) = refl
+refusal-fits R.Closed = refl
+refusal-fits R.RowLimit = refl
+refusal-fits (R.NoRoom needed) = refl
+refusal-fits R.HeightLimit = refl
+refusal-fits R.NoPrefix = refl
+refusal-fits (R.StartDiffers start) = refl
+refusal-fits (R.PageDiffers place) = refl
+refusal-fits (R.EndDiffers place) = refl
+refusal-fits (R.ListTooLong held) = refl
+refusal-fits (R.RowBelowPivot row) = refl
+refusal-fits (R.ListTooShort wanted) = refl
 
 -- a refusal's numbers
 pub encodes_refusal : (r : Refusal) (m d : ℕ) → refusal r ≡ refused m d → Encodes (record { number = m; count = 1; values = d ∷ 0 ∷ 0 ∷ 0 ∷ 0 ∷ [] }) (refusal r)
 unfolding answer_words
-encodes_refusal r m d e = encodes (fits_refusal r) (rw e refl)
+encodes_refusal r m d e = encodes (refusal-fits r) (rw e refl)
 
 filled : (vs : List ℕ) → length vs ≤ 5 → vs ++ drop (length vs) zeros ≡ take 5 (vs ++ zeros)
 filled [] h = refl
