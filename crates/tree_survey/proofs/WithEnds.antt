@@ -103,4 +103,5 @@ from-both C P w n k e h i s =
     (λ f. rw (end-wrong C w n Open None f) (from-bad true C P w n k e h i (both_ways false f)))
 
 pub ruleset below_turns = (start-both, both-done, both-up, both-bad, both-down, falls, placed, done-up, turn_up, room, short, narrow, turn-down, not-false)
+
 pub ruleset both_roots = (from-both)

@@ -138,12 +138,7 @@ pub fn survey_both(l: Layout, s: &[u64], root: NodeNo) -> Surveys
 }
 
 // One reading.
-pub fn survey_tree(
-    l: Layout,
-    s: &[u64],
-    ends: bool,
-    root: NodeNo,
-) -> Result<Counts, UnsoundNode>
+pub fn survey_tree(l: Layout, s: &[u64], ends: bool, root: NodeNo) -> Result<Counts, UnsoundNode>
     requires fits { Fits l s.now }
     requires root_lt_pool { root.0 < l.pool }
     ensures { result ≡ tally (shape_of l) s.now (root_visits ends (shape_of l) l.pool s.now root.0) no_counts }
