@@ -79,7 +79,7 @@ fn survey_below(
     ensures ends { result.ends ≡ with_ends seen (tally (shape_of l) s.now (below true (shape_of l) l.pool s.now node.0) start) }
 {
     let mut path = Path::rooted(node);
-    let mut nexts: [Option<RowID>; 32] = [None; 32];
+    let mut nexts = [None; 32];
     let mut firsts = [first; 32];
     let mut counts = start;
     let mut wrong = seen;
@@ -127,14 +127,12 @@ pub fn survey_both(l: Layout, s: &[u64], root: NodeNo) -> Surveys
     if !h.is_in_height() {
         return both(Err(UnsoundNode(root)), None);
     }
-    match node_test::test_node(l, s, root, h.height, h.start_row_id, None) {
-        None => both(Err(UnsoundNode(root)), None),
-        Some(first) => {
-            let counts = tree_tally::count_node(l, s, root, zero);
-            let wrong = look_at_end(l, s, root, None, None);
-            survey_below(l, s, root, first, counts, wrong)
-        }
-    }
+    let Some(first) = node_test::test_node(l, s, root, h.height, h.start_row_id, None) else {
+        return both(Err(UnsoundNode(root)), None);
+    };
+    let counts = tree_tally::count_node(l, s, root, zero);
+    let wrong = look_at_end(l, s, root, None, None);
+    survey_below(l, s, root, first, counts, wrong)
 }
 
 // One reading.
