@@ -5,6 +5,7 @@ use mathlib.Core.Bool.{Bool, true, false}
 use mathlib.Core.Path.{◌≡◌, sym, ap, ◌∙◌, subst}
 use native.Mathlib.Omega.{arith}
 use lib.ListN.{length}
+use lib.Seq.{take_all}
 use lib.Dec.{leb}
 use borrow.Author.Tests.{le-leb, lt-leb}
 use Rattle.model.specs.Words.{store_shape, Shape, lent, pick, fill, pool, root, free_count, height, start}
@@ -135,3 +136,5 @@ module _ (w : List ℕ) (v : ℕ) (l : List ℕ) where
               rw (o.passes, o.not-closed, none-bad, low-is false (not-low b), fits-list, le-leb (free_count w + length (root_nodes C w n)) P (omega (arith, exact.0, r)), exact.0, exact.1, o.header_is)
 
 pub ruleset deciding = (is_open, opens-fits, opens-free, not_open, bad-node, few-nodes, releasable, counts, too_low, too_short, too_full, released)
+
+pub ruleset all_freed = (take_all)

@@ -20,6 +20,7 @@ use tree_free;
 use tree_survey;
 
 // A sound tree of k nodes: its page ids go into the list, its nodes into the chain, and the root word closes the store.
+#[tactic(auto, unfolding(model::specs::Release::released_words), using(crate::proofs::Deciding::all_freed))]
 fn destroy_tree(l: Layout, s: &mut [u64], root: NodeNo, k: u64, pages: &mut [u64])
     requires releasable { Releasable (shape_of l) l.pool s.old root.0 k }
     requires k_value { (k ≡ length (root_nodes (shape_of l) s.old root.0)) × (length (root_entries (shape_of l) s.old root.0) ≤ length pages.old) }
