@@ -2,7 +2,7 @@
 
 #![tactic(auto)]
 
-ghost use Rattle.std.specs.Prelude.{◌≡◌, ◌+◌, ◌*◌, ◌≤◌, ◌<◌, drop, length, take};
+ghost use Rattle.std.specs.Prelude.{◌≡◌, ◌+◌, ◌*◌, ◌≤◌, ◌<◌, IfSome, drop, length, take};
 ghost use Rattle.script_records.specs.Records.{asked, little};
 ghost use Rattle.script_records.specs.Read.{Copied, Reads, head_of, meant};
 
@@ -86,7 +86,8 @@ pub fn read_body(body: &[u8]) -> Option<Record>
 // The length that bytes begin with, where they have the whole record.
 #[tactic(auto, unfolding(crate::specs::Records::whole, crate::specs::Read::head_of))]
 pub fn read_head(bytes: &[u8]) -> Option<usize>
-    ensures { result ≡ head_of bytes.now }
+    ensures is { result ≡ head_of bytes.now }
+    ensures fits { IfSome result (λ n. (n ≤ 4096) × (4 + n ≤ length bytes.now)) }
 {
     if bytes.len() < 4 {
         return None;
