@@ -10,19 +10,11 @@ use Rattle.model.specs.Append.{fresh, top_of, end_over, new_path, hang, raised, 
 use Rattle.model.specs.declared.id.NodeNo.{NodeNo}
 use Rattle.model.proofs.Words.{put-length, header_at}
 use Rattle.model.proofs.Writes.{put_keeps, copied-keeps}
-use Rattle.node_chain.specs.Chain.{listed}
-use Rattle.std.proofs.lemmas.List.{drop_more, drop_all, length-drop}
+use Rattle.std.proofs.lemmas.List.{drop_more, drop_all, take_rest, length-drop}
 use Rattle.append_path.specs.Inside.{Inside, number_at, numbers}
 
 nodes_from : (l : List NodeNo) (i : ℕ) → i < length l → numbers (drop i l) ≡ number_at l i ∷ numbers (drop (i + 1) l)
 nodes_from l i h = ap numbers (drop_more l i (record { 0 = 0 }) h)
-
--- k of these nodes from place i on are that part of the slice
-pub listed-is : (l : List NodeNo) (i k : ℕ) → i + k ≤ length l → listed l i k ≡ numbers (take k (drop i l))
-unfolding listed
-listed-is l i zero h = refl
-listed-is l i (suc k) h =
-    ap (λ (z : List ℕ). number_at l i ∷ z) (listed-is l (i + 1) k (omega arith)) ∙ sym (ap (λ (z : List NodeNo). numbers (take (suc k) z)) (drop_more l i (record { 0 = 0 }) (omega arith)))
 
 pub inside_at : (P : ℕ) (l : List NodeNo) (i : ℕ) → Inside P (numbers l) → i < length l → number_at l i < P
 unfolding Inside
@@ -30,10 +22,17 @@ inside_at P [] i h a = absurd (omega arith)
 inside_at P (n ∷ l) zero h a = h.0
 inside_at P (n ∷ l) (suc i) h a = inside_at P l i h.1 (omega arith)
 
-pub inside_rest : (P : ℕ) (l : List NodeNo) → Inside P (numbers l) → Inside P (numbers (drop 1 l))
+-- the nodes after the first
+abbrev rest : List NodeNo → List NodeNo
+rest l = take (length l - 1) (drop 1 l)
+
+rest-is : (n : NodeNo) (l : List NodeNo) → rest (n ∷ l) ≡ l
+rest-is n l = take_rest (n ∷ l) 1
+
+pub inside_rest : (P : ℕ) (l : List NodeNo) → Inside P (numbers l) → Inside P (numbers (rest l))
 unfolding Inside
 inside_rest P [] h = h
-inside_rest P (n ∷ l) h = h.1
+inside_rest P (n ∷ l) h = rw (rest-is n l) h.1
 
 pub length-numbers : (l : List NodeNo) → length (numbers l) ≡ length l
 length-numbers [] = refl
@@ -66,11 +65,11 @@ module _ (C : Shape) (w : List ℕ) (n s e x : ℕ) where
   hang_is (m ∷ l) z = refl
 
   pub split_is : (l : List NodeNo) → 2 ≤ length l
-      → split_root C w n s e x (numbers l) ≡ new_path C (raised C (put C (copied C w n (number_at l 0)) (number_at l 0) 3 s) n (number_at l 0) s (number_at l 1)) s e x (numbers (drop 1 l))
+      → split_root C w n s e x (numbers l) ≡ new_path C (raised C (put C (copied C w n (number_at l 0)) (number_at l 0) 3 s) n (number_at l 0) s (number_at l 1)) s e x (numbers (rest l))
   unfolding split_root top_of
   split_is [] h = absurd (omega arith)
   split_is (c ∷ []) h = absurd (omega arith)
-  split_is (c ∷ m ∷ l) h = refl
+  split_is (c ∷ m ∷ l) h = rw (rest-is c (m ∷ l))
 
 -- the root's height is the same where its copy was written
 module _ (C : Shape) (w : List ℕ) (n c s : ℕ) (d : n ≢ c) where
@@ -80,3 +79,6 @@ module _ (C : Shape) (w : List ℕ) (n c s : ℕ) (d : n ≢ c) where
 pub raised_header : (C : Shape) (P : ℕ) (w : List ℕ) (n c s m : ℕ) → Header C.cap P w → Header C.cap P (raised C w n c s m)
 unfolding raised
 raised_header C P w n c s m hd = header_at C.cap P w _ hd (simp put-length)
+
+-- what a split of the root cites
+pub ruleset split_steps = (inside_at, inside_rest, split_is, split_high)
