@@ -112,3 +112,6 @@ module _ {C : Shape} {P : ℕ} {w : List ℕ} {k t q : ℕ} {ps : List Position}
 -- an edge that ends at an unsound node
 pub stops : (C : Shape) (P : ℕ) (w : List ℕ) (h n r : ℕ) (m : UnsoundNode) → descend (to_right C w) C P w h n n r Open ≡ unsound m.0.0 → Descended C P w h n r (Err m)
 stops C P w h n r m d = record { answer = sym d; walked = tt }
+
+-- what the steps down cite
+pub ruleset edge_steps = (begins, far, bad, entry, goes_on, arrives, stops, has_room, no_room)

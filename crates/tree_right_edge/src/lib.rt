@@ -47,6 +47,7 @@ pub fn range_start(l: Layout, s: &[u64], n: NodeNo) -> RowID
 
 // From a root of this height that starts at this row. The positions are stored to in place; what is next stays open on
 // the right edge.
+#[tactic(auto, using(crate::proofs::Turns::edge_steps))]
 fn go_down(
     l: Layout,
     s: &[u64],
@@ -68,6 +69,7 @@ fn go_down(
     let mut h = height;
     let mut r = row;
     let mut depth: usize = 0;
+    // no `for` over heights: the leaf is tested and stored as the others are, and has no child
     loop {
         if l.pool <= n.0 {
             return Err(UnsoundNode(parent));
@@ -99,6 +101,7 @@ fn go_down(
 
 // From the root of an open store, which is its own holder: no entry leads to it. An empty root is an edge of one
 // position, with room.
+#[tactic(auto, using(crate::proofs::Edges::root_steps))]
 pub fn right_edge(l: Layout, s: &[u64], root: NodeNo) -> Result<RightEdge, UnsoundNode>
     requires fits { Fits l s.now }
     requires root_lt_pool { root.0 < l.pool }
