@@ -18,6 +18,7 @@ use node_read::layout::Layout;
 use node_write::write;
 
 // Node n loses its first k entries; what is left starts at the end.
+#[tactic(auto, unfolding(model::specs::Prune::trimmed))]
 fn trim_node(l: Layout, s: &mut [u64], n: NodeNo, k: u64, end: RowID)
     requires fits { Fits l s.old }
     requires n_lt_pool { (n.0 < l.pool) × (k ≤ count (shape_of l) s.old n.0) × (count (shape_of l) s.old n.0 ≤ l.capacity) }

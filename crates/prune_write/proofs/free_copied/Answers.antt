@@ -16,7 +16,7 @@ loop-i-init c = (c.requires.fits, c.requires.free_bound.1, refl)
 
 pub free_node-requires : goal.free_node-requires
 unfolding AllIn
-free_node-requires c = record { fits = c.loop-i.invariant.0; n_lt_pool = (c.requires.free_bound.0 (c.loop-i.i - 1) (omega arith), omega (arith, c.loop-i.invariant.1)) }
+free_node-requires c = record { fits = c.loop-i.invariant.0; n_lt_pool = (c.requires.free_bound.0 _ (omega arith), omega (arith, c.loop-i.invariant.1)) }
 
 pub loop-i-preserved : goal.loop-i-preserved
 loop-i-preserved c = (
