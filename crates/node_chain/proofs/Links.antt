@@ -1,15 +1,16 @@
 -- The chain of free nodes: what a walk of it has listed, and what one more link adds.
 use Prim.Native.Nat.{ℕ, zero, suc, ◌+◌, ◌-◌, ◌<◌, ◌≤◌}
 use mathlib.Core.List.{List, [], ◌∷◌, ◌++◌, append-nil, append_assoc}
-use mathlib.Core.Bool.{Bool, true, false, false≢true}
+use mathlib.Core.Bool.{Bool, true, false, false≢true, not}
 use mathlib.Core.Path.{◌≡◌, refl, sym, ap, ◌∙◌}
 use native.Mathlib.Omega.{arith}
 use native.Mathlib.Nat.{add-zero, zero-add}
 use native.Mathlib.Numerals.{add-one}
-use lib.ListN.{get_or, set, length}
+use lib.ListN.{get_or, set, take, length}
 use lib.Seq.{get_or-set_same, get_or-set_other}
 use lib.Dec.{eqb, leb, ltb, ltb→lt, leb→le, eqb→eq}
-use borrow.Author.Tests.{lt-ltb, le-ltb, le-leb, eq-eqb, ne_eqb}
+use borrow.Author.Tests.{lt-ltb, le-ltb, le-leb, eq-eqb, ne_eqb, eqb-true, eqb-false}
+use Rattle.std.specs.List.{list_any}
 use Rattle.model.specs.Words.{Shape, height, count, free_mark}
 use Rattle.model.specs.Reading.{occ}
 use Rattle.model.specs.Append.{chain_sound, firsts}
@@ -41,19 +42,23 @@ listed-other l j n i (suc k) h = rw (get_or-set_other l j i n none (omega arith)
 pub listed-set : (l : List NodeNo) (i : ℕ) (n : NodeNo) → i < length l → listed (set l i n) 0 (i + 1) ≡ listed l 0 i ++ (n.0 ∷ [])
 listed-set l i n h = rw (add-one, listed_snoc, listed-other l i n 0 i (omega arith), zero-add, get_or-set_same l i n none h)
 
--- whether n is among nodes i to k
-module _ (n : ℕ) (l : List NodeNo) (i k : ℕ) where
-  pub occ-found : i < k → n ≡ (get_or l i none).0 → eqb (occ n (listed l i (k - i))) 0 ≡ false
-  unfolding occ
-  occ-found h e = rw (listed-turn l i k h, ← e, eq-eqb n n refl) (ne_eqb (1 + occ n (listed l (i + 1) (k - (i + 1)))) 0 (λ z. omega arith))
+listed-cons : (x : NodeNo) (l : List NodeNo) (i k : ℕ) → listed (x ∷ l) (i + 1) k ≡ listed l i k
+unfolding listed
+listed-cons x l i zero = refl
+listed-cons x l i (suc k) =
+    let e : get_or (x ∷ l) (i + 1) none ≡ get_or l i none = rw add-one in
+    rw (e, listed-cons x l (i + 1) k)
 
-  pub occ-past : i < k → (n ≡ (get_or l i none).0 → ⊥) → eqb (occ n (listed l i (k - i))) 0 ≡ eqb (occ n (listed l (i + 1) (k - (i + 1)))) 0
-  unfolding occ
-  occ-past h e = rw (listed-turn l i k h, ne_eqb n (get_or l i none).0 e, zero-add)
-
-  pub occ-done : k ≤ i → eqb (occ n (listed l i (k - i))) 0 ≡ true
-  unfolding occ listed
-  occ-done h = rw (stop (listed l i) i k h)
+-- whether n is among the first k nodes
+pub occ_any : (n : ℕ) (l : List NodeNo) (k : ℕ) → k ≤ length l → not (list_any (λ (y : NodeNo). eqb y.0 n) (take k l)) ≡ eqb (occ n (listed l 0 k)) 0
+unfolding occ listed
+occ_any n l zero h = refl
+occ_any n [] (suc k) h = absurd (omega arith)
+occ_any n (x ∷ l) (suc k) h =
+    by_test (eqb x.0 n)
+    (λ t. let e : n ≡ x.0 = sym (eqb-true x.0 n t) in rw (t, eq-eqb n x.0 e) (sym (ne_eqb (1 + occ n (listed (x ∷ l) 1 k)) 0 (λ z. omega arith))))
+    (λ f. let e : listed (x ∷ l) (0 + 1) k ≡ listed l 0 k = listed-cons x l 0 k in
+    rw (f, ne_eqb n x.0 (λ e. eqb-false x.0 n f (sym e)), e, zero-add) (occ_any n l k (omega arith)))
 
 -- The chain ----------------------------------------------------------------------------------------------
 
@@ -107,10 +112,6 @@ module _ (C : Shape) (P : ℕ) (w : List ℕ) (n : ℕ) (seen : List ℕ) where
 
     pub unlinked : (Link C P w n seen → ⊥) → chain_sound C P w n seen (k - i) ≡ false
     unlinked f = turn (chain_sound C P w n seen) i k h ∙ by_test (chain_sound C P w n seen (suc (k - (i + 1)))) (λ e. absurd (f (link (k - (i + 1)) e))) (λ e. e)
-
-    -- an answer that says so promises nothing more
-    pub broken : {x : Bool} {A : Type 0} → x ≡ chain_sound C P w n seen (k - i) → (Link C P w n seen → ⊥) → (false ≡ x) × (false ≡ true → A)
-    broken e f = (sym (e ∙ unlinked f), λ z. absurd (false≢true z))
 
 module _ (C : Shape) (w : List ℕ) (n i k : ℕ) where
   pub firsts-turn : (seen : List ℕ) → i < k → seen ++ firsts C w n (k - i) ≡ (seen ++ (n ∷ [])) ++ firsts C w (count C w n) (k - (i + 1))

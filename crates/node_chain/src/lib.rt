@@ -2,7 +2,7 @@
 
 #![tactic(auto)]
 
-ghost use Rattle.std.specs.Prelude.{◌≡◌, not, true, [], ◌+◌, ◌-◌, ◌≤◌, ◌<◌, eqb, length, set};
+ghost use Rattle.std.specs.Prelude.{◌≡◌, not, [], IfSome, is_some, ◌+◌, ◌-◌, ◌≤◌, ◌<◌, eqb, length, set};
 ghost use Rattle.model.specs.Words.{free_count, freed};
 ghost use Rattle.model.specs.Reading.{occ};
 ghost use Rattle.model.specs.Append.{chain_sound, firsts, past};
@@ -24,6 +24,7 @@ pub fn set_chain(s: &mut [u64], head: NodeNo, free: u64)
 }
 
 // Node n goes to the head of the chain: its first two words alone are written.
+#[tactic(auto, unfolding(model::specs::Words::freed))]
 pub fn free_node(l: Layout, s: &mut [u64], n: NodeNo)
     requires fits { Fits l s.old }
     requires n_lt_pool { (n.0 < l.pool) × (free_count s.old ≤ 65535) }
@@ -41,15 +42,7 @@ fn holds(nodes: [NodeNo; 32], k: usize, n: NodeNo) -> bool
     requires { k ≤ 32 }
     ensures { not result ≡ eqb (occ n.0 (listed nodes 0 k)) 0 }
 {
-    let mut i: usize = 0;
-    while i < k {
-        let m = nodes[i];
-        if n.0 == m.0 {
-            return true;
-        }
-        i += 1;
-    }
-    false
+    nodes[..k].contains(&n)
 }
 
 // Whether node n may be in the chain: below the pool and marked free, its next number at most the pool.
@@ -61,56 +54,37 @@ fn is_link(l: Layout, s: &[u64], n: NodeNo) -> bool
         return false;
     }
     let node = l.header(s, n);
-    let free = node.is_free();
-    if !free {
+    if !node.is_free() {
         return false;
     }
     node.count <= l.pool
 }
 
-// The first nodes of the chain, the number after them, and whether they may be taken.
+// The first nodes of the chain, and the number after them.
 #[derive(Clone, Copy)]
 pub struct Wanted {
     pub nodes: [NodeNo; 32],
     pub next: NodeNo,
-    pub sound: bool,
 }
 
-// The k nodes of the chain from head on, read and tested before anything is written.
-pub fn read_chain(l: Layout, s: &[u64], head: NodeNo, k: usize) -> Wanted
+// The k nodes of the chain from head on, read and tested before anything is written; none where they may not be taken.
+pub fn read_chain(l: Layout, s: &[u64], head: NodeNo, k: usize) -> Option<Wanted>
     requires fits { Fits l s.now }
     requires k_bound { k ≤ 32 }
-    ensures ok { result.sound ≡ chain_sound (shape_of l) l.pool s.now head.0 [] k }
-    ensures given { result.sound ≡ true → (listed result.nodes 0 k ≡ firsts (shape_of l) s.now head.0 k) × (result.next.0 ≡ past (shape_of l) s.now head.0 k) }
+    ensures ok { is_some result ≡ chain_sound (shape_of l) l.pool s.now head.0 [] k }
+    ensures given { IfSome result (λ w. (listed w.nodes 0 k ≡ firsts (shape_of l) s.now head.0 k) × (w.next.0 ≡ past (shape_of l) s.now head.0 k)) }
 {
     let mut nodes = [NodeNo(0); 32];
     let mut n = head;
-    let mut i: usize = 0;
-    while i < k {
-        let link = is_link(l, s, n);
-        if !link {
-            return Wanted {
-                nodes,
-                next: n,
-                sound: false,
-            };
+    for i in 0..k {
+        if !is_link(l, s, n) {
+            return None;
         }
-        let seen = holds(nodes, i, n);
-        if seen {
-            return Wanted {
-                nodes,
-                next: n,
-                sound: false,
-            };
+        if holds(nodes, i, n) {
+            return None;
         }
         nodes[i] = n;
-        let link = l.header(s, n);
-        n = NodeNo(link.count);
-        i += 1;
+        n = NodeNo(l.header(s, n).count);
     }
-    Wanted {
-        nodes,
-        next: n,
-        sound: true,
-    }
+    Some(Wanted { nodes, next: n })
 }

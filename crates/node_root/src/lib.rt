@@ -9,9 +9,9 @@ ghost use Rattle.node_read.specs.Layout.{Fits, shape_of};
 use model::id::NodeNo;
 use node_read::layout::Layout;
 use node_test;
-use node_test::Limit;
 
 // Whether node n is an empty root leaf.
+#[tactic(auto, unfolding(model::specs::Tree::empty_root))]
 pub fn is_empty_root(l: Layout, s: &[u64], n: NodeNo) -> bool
     requires fits { Fits l s.now }
     requires n_lt_pool { n.0 < l.pool }
@@ -31,18 +31,18 @@ pub fn is_empty_root(l: Layout, s: &[u64], n: NodeNo) -> bool
 }
 
 // Whether node n is sound as a root.
+#[tactic(auto, unfolding(model::specs::Tree::root_sound))]
 pub fn is_sound_root(l: Layout, s: &[u64], n: NodeNo) -> bool
     requires fits { Fits l s.now }
     requires n_lt_pool { n.0 < l.pool }
     ensures { result ≡ root_sound (shape_of l) s.now n.0 }
 {
-    let empty = is_empty_root(l, s, n);
-    if empty {
+    if is_empty_root(l, s, n) {
         return true;
     }
     let h = l.header(s, n);
     if !h.is_in_height() {
         return false;
     }
-    node_test::is_sound(l, s, n, h.height, h.start_row_id, Limit::Open)
+    node_test::is_sound(l, s, n, h.height, h.start_row_id, None)
 }

@@ -12,40 +12,25 @@ use model::id::{NodeNo, RowID};
 use model::node::RowPageIndexNodeHeader;
 use node_read::layout::Layout;
 
-// The row of the next entry on a path, if there is one.
-#[derive(Clone, Copy)]
-pub enum Limit {
-    Open,
-    Below(RowID),
-}
-
-// A sound node, with the first of its child numbers that is out of range: the count where none is.
-#[derive(Clone, Copy)]
-pub enum NodeTest {
-    Unsound,
-    Sound(u64),
-}
-
-// Whether a node of this height may end so, its last row being last.
-fn end_sound(height: u64, next: Limit, end: RowID, last: RowID) -> bool
+// Whether a node of this height may end so, its last row being last; next is the row of the next entry on its path, if there is
+// one.
+#[tactic(auto, unfolding(model::specs::Tree::end_sound, model::specs::Tree::meets))]
+fn end_sound(height: u64, next: Option<RowID>, end: RowID, last: RowID) -> bool
     ensures { result ≡ end_sound height (limit_of next) end.0 last.0 }
 {
     if height == 0 {
-        if end.0 <= last.0 {
+        if end <= last {
             return false;
         }
         if RowPageIndexNodeHeader::ROW_LIMIT < end.0 {
             return false;
         }
-        match next {
-            Limit::Open => true,
-            Limit::Below(row) => end.0 == row.0,
-        }
+        next.is_none_or(|row| end == row)
     } else {
         if end.0 == RowPageIndexNodeHeader::NONE {
             return true;
         }
-        last.0 < end.0
+        last < end
     }
 }
 
@@ -91,35 +76,40 @@ fn rises(l: Layout, s: &[u64], n: NodeNo, count: u64) -> bool
         let d = l.row(s, n, count - 1).0;
         return c < d;
     }
-    while i < count {
-        let a = l.row(s, n, i).0;
+    for k in i..count {
+        let a = l.row(s, n, k).0;
         if a <= last {
             return false;
         }
         last = a;
-        i += 1;
     }
     true
 }
 
 // The first of the child numbers of node n that is not below the pool; the count where all are.
+#[tactic(auto, unfolding(crate::specs::Test::first_out))]
 fn first_out(l: Layout, s: &[u64], n: NodeNo, count: u64) -> u64
     requires fits { Fits l s.now }
     requires n_lt_pool { (n.0 < l.pool) × (count ≤ l.capacity) }
     ensures { result ≡ first_out (shape_of l) l.pool s.now n.0 0 count }
 {
-    let mut i: u64 = 0;
-    while i < count {
+    for i in 0..count {
         if l.pool <= l.child(s, n, i).0 {
             return i;
         }
-        i += 1;
     }
-    i
+    count
 }
 
 // Whether node n is sound at this height, under an entry of this row.
-pub fn is_sound(l: Layout, s: &[u64], n: NodeNo, height: u64, row: RowID, next: Limit) -> bool
+pub fn is_sound(
+    l: Layout,
+    s: &[u64],
+    n: NodeNo,
+    height: u64,
+    row: RowID,
+    next: Option<RowID>,
+) -> bool
     requires fits { Fits l s.now }
     requires n_lt_pool { n.0 < l.pool }
     ensures { result ≡ sound (shape_of l) height (node_at (shape_of l) s.now n.0) row.0 (limit_of next) }
@@ -135,33 +125,40 @@ pub fn is_sound(l: Layout, s: &[u64], n: NodeNo, height: u64, row: RowID, next: 
     if l.capacity < count {
         return false;
     }
-    if h.start_row_id.0 != row.0 {
+    if h.start_row_id != row {
         return false;
     }
-    if l.row(s, n, 0).0 != row.0 {
+    if l.row(s, n, 0) != row {
         return false;
     }
     let last = l.row(s, n, count - 1);
-    let ends = end_sound(height, next, h.end_row_id, last);
-    if !ends {
+    if !end_sound(height, next, h.end_row_id, last) {
         return false;
     }
     rises(l, s, n, count)
 }
 
-// The node test: all rows, then all child numbers.
-pub fn test_node(l: Layout, s: &[u64], n: NodeNo, height: u64, row: RowID, next: Limit) -> NodeTest
+// The node test: all rows, then all child numbers. Of a sound node it gives the first of its child numbers that is out of range:
+// the count where none is.
+#[tactic(auto, unfolding(crate::specs::Test::node_test))]
+pub fn test_node(
+    l: Layout,
+    s: &[u64],
+    n: NodeNo,
+    height: u64,
+    row: RowID,
+    next: Option<RowID>,
+) -> Option<u64>
     requires fits { Fits l s.now }
     requires n_lt_pool { n.0 < l.pool }
     ensures { result ≡ node_test (shape_of l) l.pool s.now n.0 height row.0 (limit_of next) }
 {
-    let good = is_sound(l, s, n, height, row, next);
-    if !good {
-        return NodeTest::Unsound;
+    if !is_sound(l, s, n, height, row, next) {
+        return None;
     }
     let h = l.header(s, n);
     if height == 0 {
-        return NodeTest::Sound(h.count);
+        return Some(h.count);
     }
-    NodeTest::Sound(first_out(l, s, n, h.count))
+    Some(first_out(l, s, n, h.count))
 }

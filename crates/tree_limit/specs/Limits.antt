@@ -1,22 +1,21 @@
 -- What is next, as a flag and a row.
-use Rattle.std.specs.Prelude.{ℕ, Bool, true, false, List, [], ◌∷◌}
-use Rattle.node_test.specs.declared.Limit.{Limit}
-use Rattle.node_test.specs.declared.Limit.TheVariants.{Open, Below}
+use Rattle.std.specs.Prelude.{ℕ, Bool, true, false, List, [], ◌∷◌, Option, Some, None}
+use Rattle.model.specs.declared.id.RowID.{RowID}
 
-unfoldable pub limit : Bool → ℕ → Limit
-limit true r = Below (record { 0 = r })
-limit false r = Open
+unfoldable pub limit : Bool → ℕ → Option RowID
+limit true r = Some (record { 0 = r })
+limit false r = None
 
-unfoldable pub bounded : Limit → Bool
-bounded Open = false
-bounded (Below r) = true
+unfoldable pub bounded : Option RowID → Bool
+bounded None = false
+bounded (Some r) = true
 
-unfoldable pub row_of : Limit → ℕ
-row_of Open = 0
-row_of (Below r) = r.0
+unfoldable pub row_of : Option RowID → ℕ
+row_of None = 0
+row_of (Some r) = r.0
 
 -- two lists as one
-unfoldable pub limits : List Bool → List ℕ → List Limit
+unfoldable pub limits : List Bool → List ℕ → List (Option RowID)
 limits [] rs = []
 limits (f ∷ fs) [] = []
 limits (f ∷ fs) (r ∷ rs) = limit f r ∷ limits fs rs

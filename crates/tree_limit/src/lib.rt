@@ -9,38 +9,32 @@ ghost use Rattle.tree_limit.specs.Limits.{bounded, limit, row_of};
 
 use model::id::RowID;
 use model::node::RowPageIndexNodeHeader;
-use node_test::Limit;
 
-// What is next, as the walk keeps it: a flag and a row. An enum is copied with its unused bytes, which made the walk slower.
-pub fn limit(bounded: bool, row: u64) -> Limit
+// What is next, as the walk keeps it: a flag and a row. An Option is copied with its unused bytes, which made the walk slower.
+#[tactic(auto, unfolding(crate::specs::Limits::limit))]
+pub fn limit(bounded: bool, row: u64) -> Option<RowID>
     ensures { result ≡ limit bounded row }
 {
-    if bounded {
-        return Limit::Below(RowID(row));
-    }
-    Limit::Open
+    bounded.then_some(RowID(row))
 }
 
-pub fn is_bounded(next: Limit) -> bool
+#[tactic(auto, unfolding(crate::specs::Limits::bounded))]
+pub fn is_bounded(next: Option<RowID>) -> bool
     ensures { result ≡ bounded next }
 {
-    match next {
-        Limit::Open => false,
-        Limit::Below(_) => true,
-    }
+    next.is_some()
 }
 
-pub fn row_of(next: Limit) -> u64
+#[tactic(auto, unfolding(crate::specs::Limits::row_of))]
+pub fn row_of(next: Option<RowID>) -> u64
     ensures { result ≡ row_of next }
 {
-    match next {
-        Limit::Open => 0,
-        Limit::Below(row) => row.0,
-    }
+    next.map_or(0, |row| row.0)
 }
 
 // Whether a branch may end so: at NONE, or off the right edge where the next entry begins.
-pub fn end_fits(height: u64, next: Limit, end: RowID) -> bool
+#[tactic(auto, unfolding(model::specs::Reading::end_fits))]
+pub fn end_fits(height: u64, next: Option<RowID>, end: RowID) -> bool
     ensures { result ≡ end_fits height (limit_of next) end.0 }
 {
     if height == 0 {
@@ -49,8 +43,5 @@ pub fn end_fits(height: u64, next: Limit, end: RowID) -> bool
     if end.0 == RowPageIndexNodeHeader::NONE {
         return true;
     }
-    match next {
-        Limit::Open => false, // on the right edge
-        Limit::Below(row) => end.0 == row.0,
-    }
+    next.is_some_and(|row| end == row)
 }

@@ -1,10 +1,9 @@
 -- Counting over the visits of a tree.
-use Rattle.std.specs.Prelude.{ℕ, ◌+◌, ◌^◌, List, [], ◌∷◌, ltb, eqb}
+use Rattle.std.specs.Prelude.{ℕ, ◌+◌, ◌^◌, List, [], ◌∷◌, Result, Ok, Err, ltb, eqb}
 use Rattle.model.specs.Words.{Shape, pick, height, count}
 use Rattle.model.specs.Reading.{Visit, Enter, Leave, Bad}
 use Rattle.tree_tally.specs.declared.Counts.{Counts}
-use Rattle.tree_tally.specs.declared.Survey.{Survey}
-use Rattle.tree_tally.specs.declared.Survey.TheVariants.{Unsound, Counted}
+use Rattle.model.specs.declared.answer.UnsoundNode.{UnsoundNode}
 
 -- k and some more, up to 2^32, which the counts of a sound tree do not reach
 unfoldable pub more : ℕ → ℕ → ℕ
@@ -25,8 +24,8 @@ counted C w n k =
     (record { nodes = more k.nodes 1; leaves = k.leaves; entries = k.entries })
 
 -- over the visits, with the counts so far
-unfoldable pub tally : Shape → List ℕ → List Visit → Counts → Survey
-tally C w [] k = Counted k
+unfoldable pub tally : Shape → List ℕ → List Visit → Counts → Result Counts UnsoundNode
+tally C w [] k = Ok k
 tally C w (Enter n ∷ vs) k = tally C w vs (counted C w n k)
 tally C w (Leave n ∷ vs) k = tally C w vs k
-tally C w (Bad n ∷ vs) k = Unsound (record { 0 = n })
+tally C w (Bad n ∷ vs) k = Err (record { 0 = record { 0 = n } })

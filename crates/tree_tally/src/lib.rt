@@ -22,13 +22,8 @@ impl Counts {
     pub const MOST: u64 = 1 << 32;
 }
 
-#[derive(Clone, Copy)]
-pub enum Survey {
-    Unsound(NodeNo),
-    Counted(Counts),
-}
-
 // k and some more, up to what is told apart.
+#[tactic(auto, unfolding(crate::specs::Tally::more))]
 pub fn add(k: u64, some: u64) -> u64
     requires { some ≤ 4094 }
     ensures { result ≡ more k some }
@@ -37,6 +32,7 @@ pub fn add(k: u64, some: u64) -> u64
 }
 
 // Node n counted.
+#[tactic(auto, unfolding(crate::specs::Tally::counted))]
 pub fn count_node(l: Layout, s: &[u64], n: NodeNo, k: Counts) -> Counts
     requires fits { Fits l s.now }
     requires n_lt_pool { (n.0 < l.pool) × (count (shape_of l) s.now n.0 ≤ l.capacity) }

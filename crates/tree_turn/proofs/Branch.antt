@@ -16,7 +16,7 @@ use Rattle.model.specs.declared.path.Path.{Path}
 use Rattle.model.proofs.Tests.{by_test}
 use Rattle.model.proofs.Frame.{Same}
 use Rattle.tree_turn.specs.Left.{ValidPath, Moves}
-use Rattle.tree_turn.specs.declared.turn.Step.TheVariants.{Up, Down}
+use Rattle.std.specs.Prelude.{Option, Some, None}
 use Rattle.tree_turn.specs.Turn.{has_child, out_of, up, down, bad, entering, turning, stepping}
 use Rattle.tree_turn.proofs.Moves.{leaf_move, end_move}
 use Rattle.tree_turn.proofs.Tests.{branch, no_more}
@@ -66,17 +66,17 @@ module _ (C : Shape) (P : ℕ) (w : List ℕ) (n i : ℕ) (b : Limit) where
 
 -- the turn that tests nothing
 module _ (C : Shape) (w : List ℕ) (n i : ℕ) where
-  pub step-out : Up ≡ stepping C w n i → has_child C w n i ≡ false
+  pub step-out : None ≡ stepping C w n i → has_child C w n i ≡ false
   unfolding stepping
-  step-out e = by_test (has_child C w n i) (λ h. let q : Up ≡ Down (record { 0 = child C w n i }) = rw h at e in other (cc)) (λ h. h)
+  step-out e = by_test (has_child C w n i) (λ h. let q : None ≡ Some (record { 0 = child C w n i }) = rw h at e in other (cc)) (λ h. h)
 
-  pub step_in : (c : ℕ) → Down (record { 0 = c }) ≡ stepping C w n i → (has_child C w n i ≡ true) × (child C w n i ≡ c)
+  pub step_in : (c : ℕ) → Some (record { 0 = c }) ≡ stepping C w n i → (has_child C w n i ≡ true) × (child C w n i ≡ c)
   unfolding stepping
   step_in c e =
       by_test (has_child C w n i)
-      (λ h. let q : Down (record { 0 = c }) ≡ Down (record { 0 = child C w n i }) = rw h at e in
+      (λ h. let q : Some (record { 0 = c }) ≡ Some (record { 0 = child C w n i }) = rw h at e in
       let r : ◌≡◌ {A = NodeNo} (record { 0 = child C w n i }) (record { 0 = c }) = cc in (h, ap (λ (x : NodeNo). x.0) r))
-      (λ h. let q : Down (record { 0 = c }) ≡ Up = rw h at e in other (cc))
+      (λ h. let q : Some (record { 0 = c }) ≡ None = rw h at e in other (cc))
 
 -- a node with the same words in w and v is turned at in the same way
 module _ (C : Shape) (w v : List ℕ) (n i : ℕ) (s : Same C w v n) (l : count C w n ≤ C.cap) where

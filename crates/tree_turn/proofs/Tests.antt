@@ -12,42 +12,41 @@ use Rattle.model.specs.Tree.{Limit, node_at, sound}
 use Rattle.model.specs.Reading.{passes, next_row}
 use Rattle.model.proofs.Tests.{by_test}
 use Rattle.node_test.specs.Test.{node_test}
-use Rattle.node_test.specs.declared.NodeTest.{NodeTest}
-use Rattle.node_test.specs.declared.NodeTest.TheVariants.{Unsound, Sound}
+use Rattle.std.specs.Prelude.{Option, Some, None}
 use Rattle.model.specs.declared.path.Position.{Position}
 use Rattle.tree_turn.specs.Turn.{has_child, out_of, Placed, up, down, bad, entering, turning}
 use Rattle.tree_turn.proofs.Outs.{in_range_lem, out-range}
 
 module _ (C : Shape) (P : ℕ) (w : List ℕ) (n h r : ℕ) (b : Limit) where
   -- the node test is what the walk asks of a node where ends are not looked at
-  pub test-passes : node_test C P w n h r b ≡ pick (passes false C h (node_at C w n) r b) (Sound (out_of C P w h n)) Unsound
+  pub test-passes : node_test C P w n h r b ≡ pick (passes false C h (node_at C w n) r b) (Some (out_of C P w h n)) None
   unfolding passes node_test out_of
   test-passes = rw (and-true (sound C h (node_at C w n) r b))
 
 -- what the test of a node says of it
 module _ (C : Shape) (P : ℕ) (w : List ℕ) (n h r : ℕ) (b : Limit) where
-  pub pass-sound : (first : ℕ) → node_test C P w n h r b ≡ Sound first → (passes false C h (node_at C w n) r b ≡ true) × (first ≡ out_of C P w h n)
+  pub pass-sound : (first : ℕ) → node_test C P w n h r b ≡ Some first → (passes false C h (node_at C w n) r b ≡ true) × (first ≡ out_of C P w h n)
   pass-sound first e =
       by_test (passes false C h (node_at C w n) r b)
-      (λ t. let q : Sound (out_of C P w h n) ≡ Sound first = rw (test-passes C P w n h r b, t) at e in (t, cc))
-      (λ t. let q : Unsound ≡ Sound first = rw (test-passes C P w n h r b, t) at e in let z : ◌≡◌ {A = ℕ} 0 1 = cc in absurd (omega arith))
+      (λ t. let q : Some (out_of C P w h n) ≡ Some first = rw (test-passes C P w n h r b, t) at e in (t, cc))
+      (λ t. let q : None ≡ Some first = rw (test-passes C P w n h r b, t) at e in let z : ◌≡◌ {A = ℕ} 0 1 = cc in absurd (omega arith))
 
-  pub pass-unsound : node_test C P w n h r b ≡ Unsound → passes false C h (node_at C w n) r b ≡ false
+  pub pass-unsound : node_test C P w n h r b ≡ None → passes false C h (node_at C w n) r b ≡ false
   pass-unsound e =
       by_test (passes false C h (node_at C w n) r b)
-      (λ t. let q : Sound (out_of C P w h n) ≡ Unsound = rw (test-passes C P w n h r b, t) at e in let z : ◌≡◌ {A = ℕ} 0 1 = cc in absurd (omega arith))
+      (λ t. let q : Some (out_of C P w h n) ≡ None = rw (test-passes C P w n h r b, t) at e in let z : ◌≡◌ {A = ℕ} 0 1 = cc in absurd (omega arith))
       (λ t. t)
 
 -- what the test of child i of branch n says
 module _ (C : Shape) (P : ℕ) (w : List ℕ) (n i : ℕ) (b : Limit) where
-  abbrev pub tested : NodeTest
+  abbrev pub tested : Option ℕ
   tested = node_test C P w (child C w n i) (height C w n - 1) (row C w n i) (next_row C w n i b)
 
-  pub enters : (first : ℕ) → tested ≡ Sound first → entering C P w n i b ≡ down (child C w n i) (next_row C w n i b) first
+  pub enters : (first : ℕ) → tested ≡ Some first → entering C P w n i b ≡ down (child C w n i) (next_row C w n i b) first
   unfolding entering
   enters first e = let s = pass-sound C P w (child C w n i) (height C w n - 1) (row C w n i) (next_row C w n i b) first e in rw (s.0, s.1)
 
-  pub stays : tested ≡ Unsound → entering C P w n i b ≡ bad (child C w n i)
+  pub stays : tested ≡ None → entering C P w n i b ≡ bad (child C w n i)
   unfolding entering
   stays e = rw (pass-unsound C P w (child C w n i) (height C w n - 1) (row C w n i) (next_row C w n i b) e)
 

@@ -20,10 +20,9 @@ use Rattle.model.specs.declared.path.Path.{Path}
 use Rattle.model.proofs.Tests.{by_test}
 use Rattle.law_formed.specs.Visits.{clean}
 use Rattle.node_test.specs.Test.{limit_of}
-use Rattle.node_test.specs.declared.Limit.{Limit}
-use Rattle.node_test.specs.declared.Limit.TheVariants.{Open}
+use Rattle.model.specs.declared.id.RowID.{RowID}
 use Rattle.tree_turn.specs.Left.{bound, left, Valid, ValidPath, Moves}
-use Rattle.tree_turn.specs.declared.turn.Step.TheVariants.{Up, Down}
+use Rattle.std.specs.Prelude.{Option, Some, None}
 use Rattle.tree_turn.specs.Turn.{has_child, out_of, Placed, Turning, up, down, bad, turning, stepping}
 use Rattle.tree_turn.proofs.Valid.{Top, valid-top, valid-path}
 use Rattle.tree_turn.proofs.Rest.{bound-turned, passes-fits}
@@ -45,12 +44,12 @@ by_ends ends C h t r b x e = rw (sym (and-true (sound C h t r b)) ∙ e)
 
 module _ (C : Shape) (P : ℕ) (w : List ℕ) where
   -- what stands beside position d
-  pub record Beside (l : List Position) (nexts : List Limit) (firsts : List ℕ) (d : ℕ) : Type 0 where
-    pub next-is : limit_of (get_or nexts d Open) ≡ bound C w (stack l d)
+  pub record Beside (l : List Position) (nexts : List (Option RowID)) (firsts : List ℕ) (d : ℕ) : Type 0 where
+    pub next-is : limit_of (get_or nexts d None) ≡ bound C w (stack l d)
     pub first-is : get_or firsts d 0 ≡ out_of C P w (height C w (get_or l d no_position).node.0) (get_or l d no_position).node.0
     pub ahead : (get_or l d no_position).index ≤ get_or firsts d 0
 
-  pub record Held (p : Path) (nexts : List Limit) (firsts : List ℕ) : Type 0 where
+  pub record Held (p : Path) (nexts : List (Option RowID)) (firsts : List ℕ) : Type 0 where
     pub valid : ValidPath C P w p
     pub deep : p.depth ≤ 32
     pub long : length p.positions ≡ 32
@@ -59,11 +58,11 @@ module _ (C : Shape) (P : ℕ) (w : List ℕ) where
     pub beside : (d : ℕ) → d < p.depth → Beside p.positions nexts firsts d
 
   -- the turn at the last position
-  abbrev pub turn_at : Path → List Limit → Turning
-  turn_at p nexts = turning C P w (last_of p).node.0 (last_of p).index (limit_of (get_or nexts (p.depth - 1) Open))
+  abbrev pub turn_at : Path → List (Option RowID) → Turning
+  turn_at p nexts = turning C P w (last_of p).node.0 (last_of p).index (limit_of (get_or nexts (p.depth - 1) None))
 
   -- at a node just entered
-  pub start-held : (root first : ℕ) → Valid C P w (height C w root) (entered root ∷ []) → first ≡ out_of C P w (height C w root) root → Held (rooted root) (replicate 32 Open) (replicate 32 first)
+  pub start-held : (root first : ℕ) → Valid C P w (height C w root) (entered root ∷ []) → first ≡ out_of C P w (height C w root) root → Held (rooted root) (replicate 32 None) (replicate 32 first)
   unfolding stack bound
   start-held root first v e =
       record {
@@ -72,10 +71,10 @@ module _ (C : Shape) (P : ℕ) (w : List ℕ) where
         long = refl;
         long-next = refl;
         long-first = refl;
-        beside = λ d l. let z : d ≡ 0 = omega arith in subst (λ (j : ℕ). Beside (replicate 32 (entered root)) (replicate 32 Open) (replicate 32 first) j) (sym z) (record { next-is = refl; first-is = e; ahead = zero-le });
+        beside = λ d l. let z : d ≡ 0 = omega arith in subst (λ (j : ℕ). Beside (replicate 32 (entered root)) (replicate 32 None) (replicate 32 first) j) (sym z) (record { next-is = refl; first-is = e; ahead = zero-le });
       }
 
-module _ {C : Shape} {P : ℕ} {w : List ℕ} {p : Path} {nexts : List Limit} {firsts : List ℕ} (H : Held C P w p nexts firsts) (z : 0 < p.depth) where
+module _ {C : Shape} {P : ℕ} {w : List ℕ} {p : Path} {nexts : List (Option RowID)} {firsts : List ℕ} (H : Held C P w p nexts firsts) (z : 0 < p.depth) where
   abbrev n : ℕ
   n = (last_of p).node.0
 
@@ -83,7 +82,7 @@ module _ {C : Shape} {P : ℕ} {w : List ℕ} {p : Path} {nexts : List Limit} {f
   i = (last_of p).index
 
   abbrev b₀ : Tree.Limit
-  b₀ = limit_of (get_or nexts (p.depth - 1) Open)
+  b₀ = limit_of (get_or nexts (p.depth - 1) None)
 
   B : Beside C P w p.positions nexts firsts (p.depth - 1)
   B = H.beside (p.depth - 1) (omega arith)
@@ -171,7 +170,7 @@ module _ {C : Shape} {P : ℕ} {w : List ℕ} {p : Path} {nexts : List Limit} {f
         subst (λ (x : ℕ). Moves true C P w p (Bad x) (turned_path p)) (sym W.number)
         (bad_move true C P w p H.valid z (turned_path p) (height C w n - 1) (tall W.has) (inside W.has) W.range (pass true false f) (turned-trail p z H.long H.deep))
 
-  module _ {c : ℕ} (b : Limit) {first : ℕ} (e : down c (limit_of b) first ≡ turn_at C P w p nexts) where
+  module _ {c : ℕ} (b : Option RowID) {first : ℕ} (e : down c (limit_of b) first ≡ turn_at C P w p nexts) where
     abbrev After : ℕ → Type 0
     After d = Beside C P w (entered_path p c).positions (set nexts p.depth b) (set firsts p.depth first) d
 
@@ -180,7 +179,7 @@ module _ {C : Shape} {P : ℕ} {w : List ℕ} {p : Path} {nexts : List Limit} {f
     kept d l q g s a =
         let o = H.beside d l in
         record {
-          next-is = ap limit_of (get_or-set_other nexts p.depth d b Open (λ x. omega arith)) ∙ o.next-is ∙ ap (bound C w) (sym (entered-above p z H.long c d (omega arith)));
+          next-is = ap limit_of (get_or-set_other nexts p.depth d b None (λ x. omega arith)) ∙ o.next-is ∙ ap (bound C w) (sym (entered-above p z H.long c d (omega arith)));
           first-is = get_or-set_other firsts p.depth d first 0 (λ x. omega arith) ∙ o.first-is ∙ rw (g, s);
           ahead = omega (arith, a, get_or-set_other firsts p.depth d first 0 (λ x. omega arith), ap (λ (x : Position). x.index) g);
         }
@@ -191,7 +190,7 @@ module _ {C : Shape} {P : ℕ} {w : List ℕ} {p : Path} {nexts : List Limit} {f
         let q = entered-last p z H.long c (room e) in
         let f : first ≡ out_of C P w (height C w c) c = (W e).out ∙ ap (λ (x : ℕ). out_of C P w (height C w n - 1) x) (sym (W e).number) ∙ ap (λ (x : ℕ). out_of C P w x c) (sym (high e)) in
         record {
-          next-is = ap limit_of (get_or-set_same nexts p.depth b Open (omega (arith, room e, H.long-next))) ∙ (W e).beyond ∙ sym (ap (bound C w) (entered-under p z H.long c H.deep) ∙ next-is);
+          next-is = ap limit_of (get_or-set_same nexts p.depth b None (omega (arith, room e, H.long-next))) ∙ (W e).beyond ∙ sym (ap (bound C w) (entered-under p z H.long c H.deep) ∙ next-is);
           first-is = get_or-set_same firsts p.depth first 0 (omega (arith, room e, H.long-first)) ∙ f ∙ rw q;
           ahead = omega (arith, ap (λ (x : Position). x.index) q);
         }
@@ -225,7 +224,7 @@ module _ {C : Shape} {P : ℕ} {w : List ℕ} {p : Path} (S : Sure C P w p) (z :
   pub at_top : Top C P w p.positions p.depth (height C w (last_of p).node.0)
   at_top = valid-top C P w p z S.valid
 
-  pub step-up : Up ≡ stepping C w (last_of p).node.0 (last_of p).index → Moves false C P w p (Leave (last_of p).node.0) (popped p)
+  pub step-up : None ≡ stepping C w (last_of p).node.0 (last_of p).index → Moves false C P w p (Leave (last_of p).node.0) (popped p)
   step-up e = move_out false C P w p S.valid z (popped p) (step-out C w (last_of p).node.0 (last_of p).index e) refl
 
   -- a child that no visit calls unsound is entered
@@ -248,7 +247,7 @@ module _ {C : Shape} {P : ℕ} {w : List ℕ} {p : Path} (S : Sure C P w p) (z :
         (λ s. absurd (S.no_bad kid (bad_move false C P w p S.valid z (turned_path p) g hi inside l s t))))
         (λ u. absurd (S.no_bad m (far_move false C P w p S.valid z (turned_path p) g hi inside (ltb-false kid P u) t)))
 
-  module _ {c : ℕ} (e : Down (record { 0 = c }) ≡ stepping C w (last_of p).node.0 (last_of p).index) where
+  module _ {c : ℕ} (e : Some (record { 0 = c }) ≡ stepping C w (last_of p).node.0 (last_of p).index) where
     pub step_room : p.depth < 32
     step_room = below_32 (step_in C w (last_of p).node.0 (last_of p).index c e).0
 
@@ -274,10 +273,10 @@ module _ {C : Shape} {P : ℕ} {w : List ℕ} {p : Path} (K : Known C P w p) whe
   after v q m d l f = record { valid = m.valid; deep = d; long = l; all-clean = f (left false C P w q) (subst (λ (vs : List Visit). T (clean vs)) m.one K.all-clean) }
 
   module _ (z : 0 < p.depth) where
-    pub known_up : Up ≡ stepping C w (last_of p).node.0 (last_of p).index → Known C P w (popped p)
+    pub known_up : None ≡ stepping C w (last_of p).node.0 (last_of p).index → Known C P w (popped p)
     unfolding clean
     known_up e = after (Leave (last_of p).node.0) (popped p) (step-up sure z e) (omega (arith, K.deep)) K.long (λ vs t. t)
 
-    pub known-down : {c : ℕ} → Down (record { 0 = c }) ≡ stepping C w (last_of p).node.0 (last_of p).index → Known C P w (entered_path p c)
+    pub known-down : {c : ℕ} → Some (record { 0 = c }) ≡ stepping C w (last_of p).node.0 (last_of p).index → Known C P w (entered_path p c)
     unfolding clean
     known-down {c} e = after (Enter c) (entered_path p c) (step_down sure z e) (omega (arith, step_room sure z e)) (entered-length p z K.long c) (λ vs t. t)

@@ -1,14 +1,13 @@
 -- One turn of the walk, and its parts.
-use Rattle.std.specs.Prelude.{ℕ, ◌-◌, ◌<◌, ◌≤◌, List, Bool, false, ◌&&◌, ◌≡◌, ltb, eqb}
+use Rattle.std.specs.Prelude.{ℕ, ◌-◌, ◌<◌, ◌≤◌, List, Bool, false, ◌&&◌, ◌≡◌, Option, Some, None, Result, Ok, Err, ltb, eqb}
 use Rattle.model.specs.Words.{Shape, pick, height, count, row, child}
 use Rattle.model.specs.Tree.{Limit, node_at}
 use Rattle.model.specs.Reading.{passes, next_row}
 use Rattle.model.specs.declared.path.Position.{Position}
 use Rattle.node_test.specs.Test.{limit_of, first_out}
-use Rattle.tree_turn.specs.declared.turn.Turn.{Turn}
-use Rattle.tree_turn.specs.declared.turn.Turn.TheVariants.{Down, Bad}
-use Rattle.tree_turn.specs.declared.turn.Step.{Step}
-use Rattle.tree_turn.specs.declared.turn.Step.TheVariants as Steps
+use Rattle.model.specs.declared.answer.UnsoundNode.{UnsoundNode}
+use Rattle.model.specs.declared.id.NodeNo.{NodeNo}
+use Rattle.tree_turn.specs.declared.turn.Entered.{Entered}
 
 -- a branch with an entry i
 unfoldable pub has_child : Shape → List ℕ → ℕ → ℕ → Bool
@@ -30,9 +29,9 @@ pub data Turning : Type 0 where
   down : ℕ → Limit → ℕ → Turning
   bad : ℕ → Turning
 
-abbrev pub turn_of : Turn → Turning
-turn_of (Down n b first) = down n.0 (limit_of b) first
-turn_of (Bad n) = bad n.0
+abbrev pub turn_of : Result Entered UnsoundNode → Turning
+turn_of (Ok e) = down e.child.0 (limit_of e.next) e.first
+turn_of (Err u) = bad u.0.0
 
 -- child i of branch n, tested
 unfoldable pub entering : Shape → ℕ → List ℕ → ℕ → ℕ → Limit → Turning
@@ -48,5 +47,5 @@ turning C P w n i b =
     pick (has_child C w n i) (pick (ltb (child C w n i) P) (entering C P w n i b) (bad n)) up
 
 -- the turn that tests nothing
-unfoldable pub stepping : Shape → List ℕ → ℕ → ℕ → Step
-stepping C w n i = pick (has_child C w n i) (Steps.Down (record { 0 = child C w n i })) Steps.Up
+unfoldable pub stepping : Shape → List ℕ → ℕ → ℕ → Option NodeNo
+stepping C w n i = pick (has_child C w n i) (Some (record { 0 = child C w n i })) None

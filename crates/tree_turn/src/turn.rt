@@ -7,13 +7,14 @@ ghost use Rattle.node_read.specs.Layout.{Fits, shape_of};
 ghost use Rattle.node_test.specs.Test.{limit_of};
 ghost use Rattle.tree_turn.specs.Turn.{Placed, has_child, stepping, turn_of, turning};
 
-use model::id::NodeNo;
+use model::answer::UnsoundNode;
+use model::id::{NodeNo, RowID};
 use model::path::Position;
 use node_read::layout::Layout;
 use node_test;
-use node_test::{Limit, NodeTest};
 
 // Whether node n is a branch with an entry i.
+#[tactic(auto, unfolding(crate::specs::Turn::has_child))]
 pub fn has_child(l: Layout, s: &[u64], n: NodeNo, i: u64) -> bool
     requires fits { Fits l s.now }
     requires n_lt_pool { n.0 < l.pool }
@@ -27,14 +28,15 @@ pub fn has_child(l: Layout, s: &[u64], n: NodeNo, i: u64) -> bool
 }
 
 // What is next for entry i of node n.
-pub fn next_row(l: Layout, s: &[u64], n: NodeNo, i: u64, next: Limit) -> Limit
+#[tactic(auto, unfolding(model::specs::Reading::next_row))]
+pub fn next_row(l: Layout, s: &[u64], n: NodeNo, i: u64, next: Option<RowID>) -> Option<RowID>
     requires fits { Fits l s.now }
     requires n_lt_pool { (n.0 < l.pool) × (i < count (shape_of l) s.now n.0) × (count (shape_of l) s.now n.0 ≤ l.capacity) }
     ensures { limit_of result ≡ next_row (shape_of l) s.now n.0 i (limit_of next) }
 {
     let h = l.header(s, n);
     if i + 1 < h.count {
-        return Limit::Below(l.row(s, n, i + 1));
+        return Some(l.row(s, n, i + 1));
     }
     next
 }
@@ -49,16 +51,23 @@ pub fn is_done(l: Layout, s: &[u64], at: Position) -> bool
     !has_child(l, s, node, at.index)
 }
 
-// A child is entered, with what is next for it and the first of its child numbers out of range; or a node is unsound.
+// A child that was entered, with what is next for it and the first of its child numbers out of range.
 #[derive(Clone, Copy)]
-pub enum Turn {
-    Down(NodeNo, Limit, u64),
-    Bad(NodeNo),
+pub struct Entered {
+    pub child: NodeNo,
+    pub next: Option<RowID>,
+    pub first: u64,
 }
 
 // The turn at a position that is not done, with the first of its node's child numbers out of range and what is next for
 // the node. A loop asks is_done by itself: half of its turns are done, and need no call.
-pub fn tested(l: Layout, s: &[u64], at: Position, first: u64, next: Limit) -> Turn
+pub fn tested(
+    l: Layout,
+    s: &[u64],
+    at: Position,
+    first: u64,
+    next: Option<RowID>,
+) -> Result<Entered, UnsoundNode>
     requires fits { Fits l s.now }
     requires placed { Placed (shape_of l) l.pool s.now at first × (has_child (shape_of l) s.now at.node.0 at.index ≡ true) }
     ensures { turn_of result ≡ turning (shape_of l) l.pool s.now at.node.0 at.index (limit_of next) }
@@ -66,34 +75,33 @@ pub fn tested(l: Layout, s: &[u64], at: Position, first: u64, next: Limit) -> Tu
     let node = at.node;
     let index = at.index;
     if first <= index {
-        return Turn::Bad(node);
+        return Err(UnsoundNode(node));
     }
     let h = l.header(s, node);
     let row = l.row(s, node, index);
     let child = l.child(s, node, index);
     let beyond = next_row(l, s, node, index, next);
     match node_test::test_node(l, s, child, h.height - 1, row, beyond) {
-        NodeTest::Sound(inner) => Turn::Down(child, beyond, inner),
-        NodeTest::Unsound => Turn::Bad(child),
+        Some(inner) => Ok(Entered {
+            child,
+            next: beyond,
+            first: inner,
+        }),
+        None => Err(UnsoundNode(child)),
     }
 }
 
-// The node is left, or a child is entered.
-#[derive(Clone, Copy)]
-pub enum Step {
-    Up,
-    Down(NodeNo),
-}
-
-// The turn at a position of a tree that is known to be sound: nothing is tested.
-pub fn untested(l: Layout, s: &[u64], at: Position) -> Step
+// The turn at a position of a tree that is known to be sound: nothing is tested. The child that is entered; none where the node is
+// left.
+#[tactic(auto, unfolding(crate::specs::Turn::stepping, crate::specs::Turn::has_child))]
+pub fn untested(l: Layout, s: &[u64], at: Position) -> Option<NodeNo>
     requires fits { Fits l s.now }
     requires node_lt_pool { (at.node.0 < l.pool) × (count (shape_of l) s.now at.node.0 ≤ l.capacity) }
     ensures { result ≡ stepping (shape_of l) s.now at.node.0 at.index }
 {
     if is_done(l, s, at) {
-        return Step::Up;
+        return None;
     }
     let node = at.node;
-    Step::Down(l.child(s, node, at.index))
+    Some(l.child(s, node, at.index))
 }

@@ -1,6 +1,6 @@
 use native.Mathlib.Omega.{arith}
 use native.Mathlib.Nat.{sub-zero}
-use mathlib.Core.Path.{◌∙◌, sym}
+use mathlib.Core.Path.{◌≡◌, ◌∙◌, sym}
 use Rattle.node_read.specs.Layout.{shape_of}
 use Rattle.node_test.proofs.Rows.{out-on, out-here, out-end}
 use Rattle.node_test.proofs.first_out.Goals as goal
@@ -15,4 +15,4 @@ pub loop-i-preserved : goal.loop-i-preserved
 loop-i-preserved c = let a = c.args in (omega arith, c.loop-i.invariant.1 ∙ out-on (shape_of a.l) a.s.now a.n.0 a.l.pool _ _ c.loop-i-test.true (rw c.child.ensures at c.if-l-child.false))
 
 pub returns : goal.returns
-returns c = let a = c.args in sym (c.loop-i.invariant.1 ∙ out-end (shape_of a.l) a.s.now a.n.0 a.l.pool _ _ c.loop-i-test.false)
+returns c = let a = c.args in let e : c.loop-i.i ≡ a.count = omega arith in sym (c.loop-i.invariant.1 ∙ out-end (shape_of a.l) a.s.now a.n.0 a.l.pool _ _ c.loop-i-test.false ∙ e)

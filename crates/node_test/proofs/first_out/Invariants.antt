@@ -6,6 +6,3 @@ use Rattle.node_test.proofs.first_out.Given as goal
 
 abbrev pub invariant-loop-i : goal.invariant-loop-i
 invariant-loop-i l = (l.i ≤ l.count) × (first_out (shape_of l.l) l.l.pool l.s l.n.0 0 l.count ≡ first_out (shape_of l.l) l.l.pool l.s l.n.0 l.i (l.count - l.i))
-
-abbrev pub decreases-loop-i : goal.decreases-loop-i
-decreases-loop-i l = l.count - l.i

@@ -64,14 +64,14 @@ returns-then-count-ge4 c =
     (rise_tail (shape_of a.l) a.s.now a.n.0 x.last x.i a.count x.invariant.0 x.invariant.1 c.loop-i-test.false c.if-count-ge4.true x.invariant.2 x.invariant.3
     (rw (c.row-b-then-count-ge4.ensures, c.row-a-then-count-ge4.ensures) at c.if-b-a-2.false) (rw (c.row-c-then-count-ge4.ensures, c.row-b-then-count-ge4.ensures) at c.if-c-b-2.false))
 
-pub loop-i-2-init : goal.loop-i-2-init
-loop-i-2-init c = let x = c.loop-i.invariant in (x.0, x.1, x.2)
+pub loop-k-init : goal.loop-k-init
+loop-k-init c = let x = c.loop-i.invariant in (x.0, x.1, x.2)
 
 pub returns-then-a-last-2 : goal.returns-then-a-last-2
-returns-then-a-last-2 c = let a = c.args in sym (c.loop-i-2.invariant.2 ∙ rise-stop (shape_of a.l) a.s.now a.n.0 _ _ _ c.loop-i-2-test.true (rw c.row-a-in-loop-i-2.ensures at c.if-a-last-2.true))
+returns-then-a-last-2 c = let a = c.args in sym (c.loop-k.invariant.2 ∙ rise-stop (shape_of a.l) a.s.now a.n.0 _ _ _ c.loop-k-test.true (rw c.row-a-in-loop-k.ensures at c.if-a-last-2.true))
 
-pub loop-i-2-preserved : goal.loop-i-2-preserved
-loop-i-2-preserved c = let a = c.args in (omega arith, omega arith, c.loop-i-2.invariant.2 ∙ rise-on (shape_of a.l) a.s.now a.n.0 _ _ (c.loop-i-2.i + 1) _ c.loop-i-2-test.true refl (rw c.row-a-in-loop-i-2.ensures at c.if-a-last-2.false) ∙ rw c.row-a-in-loop-i-2.ensures)
+pub loop-k-preserved : goal.loop-k-preserved
+loop-k-preserved c = let a = c.args in (omega arith, omega arith, c.loop-k.invariant.2 ∙ rise-on (shape_of a.l) a.s.now a.n.0 _ _ (c.loop-k.k + 1) _ c.loop-k-test.true refl (rw c.row-a-in-loop-k.ensures at c.if-a-last-2.false) ∙ rw c.row-a-in-loop-k.ensures)
 
 pub returns : goal.returns
-returns c = let a = c.args in sym (c.loop-i-2.invariant.2 ∙ rise-end (shape_of a.l) a.s.now a.n.0 _ _ _ c.loop-i-2-test.false)
+returns c = let a = c.args in sym (c.loop-k.invariant.2 ∙ rise-end (shape_of a.l) a.s.now a.n.0 _ _ _ c.loop-k-test.false)

@@ -12,8 +12,5 @@ invariant-loop-i l = (1 ≤ l.i) × (l.i ≤ l.count) × (rising (pairs_from (sh
 abbrev pub decreases-loop-i : goal.decreases-loop-i
 decreases-loop-i l = l.count - l.i
 
-abbrev pub invariant-loop-i-2 : goal.invariant-loop-i-2
-invariant-loop-i-2 l = (1 ≤ l.i) × (l.i ≤ l.count) × (rising (pairs_from (shape_of l.l) l.s (λ (x : ℕ). x) l.n.0 0 l.count) ≡ rest (shape_of l.l) l.s l.n.0 l.last l.i l.count)
-
-abbrev pub decreases-loop-i-2 : goal.decreases-loop-i-2
-decreases-loop-i-2 l = l.count - l.i
+abbrev pub invariant-loop-k : goal.invariant-loop-k
+invariant-loop-k l = (1 ≤ l.k) × (l.k ≤ l.count) × (rising (pairs_from (shape_of l.l) l.s (λ (x : ℕ). x) l.n.0 0 l.count) ≡ rest (shape_of l.l) l.s l.n.0 l.last l.k l.count)

@@ -3,7 +3,7 @@ use native.Mathlib.Omega.{arith}
 use Rattle.node_read.specs.Layout.{shape_of}
 use Rattle.model.specs.declared.node.RowPageIndexNodeHeader.{RowPageIndexNodeHeader}
 use Rattle.node_test.specs.Test.{limit_of}
-use Rattle.node_test.specs.declared.NodeTest.TheVariants.{Unsound, Sound}
+use Rattle.std.specs.Prelude.{Some, None}
 use Rattle.tree_turn.proofs.Tests.{tested, enters, stays, branch, turns-far, ranged, turns_in}
 use Rattle.tree_turn.proofs.turn.tested.Goals as goal
 
@@ -25,18 +25,18 @@ overflow_sub-h c = omega (arith, ap (λ (h : RowPageIndexNodeHeader). h.height) 
 pub test_node-requires : goal.test_node-requires
 test_node-requires c = let p = c.requires in record { fits = p.fits; n_lt_pool = rw c.child-child.ensures (ranged p.placed.0 p.placed.1 c.if-first-index.false) }
 
-pub returns-in-Sound : goal.returns-in-Sound
-returns-in-Sound c =
+pub returns-in-Some : goal.returns-in-Some
+returns-in-Some c =
     let a = c.args in
     let p = c.requires.placed in
     let t = turns_in p.0 p.1 (limit_of a.next) c.if-first-index.false in
-    let q : tested (shape_of a.l) a.l.pool a.s.now a.at.node.0 a.at.index (limit_of a.next) ≡ Sound _ = rw (c.child-child.ensures, c.header-h.ensures, c.row-row.ensures, c.next_row-beyond.ensures) at (sym c.test_node.ensures ∙ c.in-Sound.is) in
+    let q : tested (shape_of a.l) a.l.pool a.s.now a.at.node.0 a.at.index (limit_of a.next) ≡ Some _ = rw (c.child-child.ensures, c.header-h.ensures, c.row-row.ensures, c.next_row-beyond.ensures) at (sym c.test_node.ensures ∙ c.in-Some.is) in
     rw (c.child-child.ensures, c.next_row-beyond.ensures) (sym (t ∙ enters (shape_of a.l) a.l.pool a.s.now a.at.node.0 a.at.index (limit_of a.next) _ q))
 
-pub returns-in-Unsound : goal.returns-in-Unsound
-returns-in-Unsound c =
+pub returns-in-None : goal.returns-in-None
+returns-in-None c =
     let a = c.args in
     let p = c.requires.placed in
     let t = turns_in p.0 p.1 (limit_of a.next) c.if-first-index.false in
-    let q : tested (shape_of a.l) a.l.pool a.s.now a.at.node.0 a.at.index (limit_of a.next) ≡ Unsound = rw (c.child-child.ensures, c.header-h.ensures, c.row-row.ensures, c.next_row-beyond.ensures) at (sym c.test_node.ensures ∙ c.in-Unsound.is) in
+    let q : tested (shape_of a.l) a.l.pool a.s.now a.at.node.0 a.at.index (limit_of a.next) ≡ None = rw (c.child-child.ensures, c.header-h.ensures, c.row-row.ensures, c.next_row-beyond.ensures) at (sym c.test_node.ensures ∙ c.in-None.is) in
     rw c.child-child.ensures (sym (t ∙ stays (shape_of a.l) a.l.pool a.s.now a.at.node.0 a.at.index (limit_of a.next) q))
