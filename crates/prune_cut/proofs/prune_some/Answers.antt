@@ -23,7 +23,7 @@ overflow_sub-h c = let R = c.requires.0 in omega (arith, R.free, R.free_in)
 pub returns-then-h-freed : goal.returns-then-h-freed
 returns-then-h-freed c =
     let p = c.requires in
-    let e = some-full p.0 p.1 p.2 _ _ c.in_ok-copies.ensures.are c.if-h-freed.true c.args.k in
+    let e = some-full p.0 p.1 p.2 _ _ c.in_ok-copies.ensures.are (omega arith) c.args.k in
     record { answer = rw e; words = rw e }
 
 pub write_edge-requires : goal.write_edge-requires
