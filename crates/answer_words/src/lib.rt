@@ -8,7 +8,7 @@ ghost use Rattle.answer_words.specs.Told.{Tells};
 
 use answer_numbers::Numbers;
 
-// Word i of a lent array, where there is one.
+// Word i of a lent array, where there is one. Not by get_mut: after its borrow a proof knows no elements.
 pub fn put(out: &mut [u64], i: usize, x: u64)
     ensures { out.new ≡ set out.old i x }
 {
@@ -21,12 +21,9 @@ pub fn put(out: &mut [u64], i: usize, x: u64)
 pub fn tell(out: &mut [u64], n: Numbers) -> u64
     ensures { Tells out.old (words_of n) out.new result }
 {
-    put(out, 0, n.number);
-    put(out, 1, n.count);
-    put(out, 2, n.first);
-    put(out, 3, n.second);
-    put(out, 4, n.third);
-    put(out, 5, n.fourth);
-    put(out, 6, n.fifth);
+    let [first, second, third, fourth, fifth] = n.values;
+    let words = [n.number, n.count, first, second, third, fourth, fifth];
+    let len = out.len().min(words.len());
+    out[..len].copy_from_slice(&words[..len]);
     n.number
 }

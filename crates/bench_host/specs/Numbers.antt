@@ -1,5 +1,5 @@
 -- What the benchmark's functions answer, as numbers.
-use Rattle.std.specs.Prelude.{ℕ, ◌-◌, List, [], ◌∷◌, not, leb, eqb}
+use Rattle.std.specs.Prelude.{ℕ, ◌-◌, List, [], ◌∷◌, not, Option, Some, None, Result, Ok, Err, leb, eqb}
 use Rattle.model.specs.Words.{pick, NONE}
 use Rattle.model.specs.Tree.{Limit, Open, Below}
 use Rattle.model.specs.Reading.{root_visits}
@@ -8,29 +8,26 @@ use Rattle.model.specs.Refusals as Answers
 use Rattle.node_read.specs.Layout.{shape_of, opened}
 use Rattle.node_test.specs.Test.{node_test}
 use Rattle.node_read.specs.declared.header.StoreHeader.{StoreHeader}
-use Rattle.node_read.specs.declared.header.Opened as H
-use Rattle.node_read.specs.declared.header.Opened.TheVariants as O
-use Rattle.node_test.specs.declared.NodeTest.{NodeTest}
-use Rattle.node_test.specs.declared.NodeTest.TheVariants.{Unsound, Sound}
 use Rattle.tree_tally.specs.Tally.{no_counts, tally}
-use Rattle.tree_tally.specs.declared.Survey.{Survey}
-use Rattle.tree_tally.specs.declared.Survey.TheVariants as S
+use Rattle.tree_tally.specs.declared.Counts.{Counts}
+use Rattle.model.specs.declared.answer.Refusal.{Refusal}
+use Rattle.model.specs.declared.answer.UnsoundNode.{UnsoundNode}
 
 -- the header is damaged, the store is closed, a node number is out of range, or the tree is unsound
 abbrev pub refused : ℕ
 refused = NONE
 
-abbrev pub when_opened : H.Opened → (StoreHeader → ℕ) → ℕ
-when_opened (O.Refused r) f = refused
-when_opened (O.Open h) f = f h
+abbrev pub when_opened : Result StoreHeader Refusal → (StoreHeader → ℕ) → ℕ
+when_opened (Err r) f = refused
+when_opened (Ok h) f = f h
 
-abbrev pub test_number : NodeTest → ℕ
-test_number Unsound = NONE - 1
-test_number (Sound first) = first
+abbrev pub test_number : Option ℕ → ℕ
+test_number None = NONE - 1
+test_number (Some first) = first
 
-abbrev pub survey_number : Survey → ℕ
-survey_number (S.Unsound n) = refused
-survey_number (S.Counted k) = k.nodes
+abbrev pub survey_number : Result Counts UnsoundNode → ℕ
+survey_number (Err n) = refused
+survey_number (Ok k) = k.nodes
 
 abbrev pub limit_to : ℕ → ℕ → Limit
 limit_to bounded row = pick (eqb bounded 0) Open (Below row)

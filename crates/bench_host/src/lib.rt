@@ -5,20 +5,18 @@
 
 ghost use Rattle.std.specs.Prelude.{◌≡◌};
 ghost use Rattle.model.specs.LeafWalk.{seek};
+ghost use Rattle.model.specs.Refusals.{next_leaf};
 ghost use Rattle.next_words.specs.Written.{next_words_of};
 ghost use Rattle.node_test.specs.Test.{limit_of};
 ghost use Rattle.bench_host.specs.Numbers.{end_number, limit_to, open_number, survey_of, test_of};
 
-use model::answer::NextLeaf;
+use model::answer::{Leaf, Refusal};
 use model::cursor::RowPageIndexMemCursor;
 use model::id::{NodeNo, RowID};
 use next_words;
 use node_read::header;
-use node_read::header::Opened;
 use node_test;
-use node_test::{Limit, NodeTest};
 use tree_survey;
-use tree_tally::Survey;
 
 // Refused: the header is damaged, the store is closed, a node number is out of range, or the tree is unsound.
 const REFUSED: u64 = u64::MAX;
@@ -29,20 +27,14 @@ const UNSOUND: u64 = u64::MAX - 1;
 pub fn bench_open(words: &[u64]) -> u64
     ensures { result ≡ open_number words.now }
 {
-    match header::open(words) {
-        Opened::Refused(_) => REFUSED,
-        Opened::Open(h) => h.layout.pool,
-    }
+    header::open(words).map_or(REFUSED, |h| h.layout.pool)
 }
 
 // A number as a limit.
-fn limit(bounded: u64, next: u64) -> Limit
+fn limit(bounded: u64, next: u64) -> Option<RowID>
     ensures { limit_of result ≡ limit_to bounded next }
 {
-    if bounded == 0 {
-        return Limit::Open;
-    }
-    Limit::Below(RowID(next))
+    (bounded != 0).then_some(RowID(next))
 }
 
 // The header test, and the node test of one node: the first of its child numbers out of range, or its count.
@@ -56,32 +48,36 @@ pub fn bench_test_node(
 ) -> u64
     ensures { result ≡ test_of words.now node height row (limit_to bounded next) }
 {
-    match header::open(words) {
-        Opened::Refused(_) => REFUSED,
-        Opened::Open(h) => {
-            let l = h.layout;
-            if l.pool <= node {
-                return REFUSED;
-            }
-            let beyond = limit(bounded, next);
-            match node_test::test_node(l, words, NodeNo(node), height, RowID(row), beyond) {
-                NodeTest::Unsound => UNSOUND,
-                NodeTest::Sound(first) => first,
-            }
-        }
+    let Ok(h) = header::open(words) else {
+        return REFUSED;
+    };
+    let l = h.layout;
+    if l.pool <= node {
+        return REFUSED;
     }
+    let beyond = limit(bounded, next);
+    node_test::test_node(l, words, NodeNo(node), height, RowID(row), beyond).unwrap_or(UNSOUND)
 }
 
 // The header test, and a reading of the whole tree: its nodes.
 pub fn bench_survey(words: &[u64], ends: u64) -> u64
     ensures { result ≡ survey_of words.now ends }
 {
-    match header::open(words) {
-        Opened::Refused(_) => REFUSED,
-        Opened::Open(h) => match tree_survey::survey_tree(h.layout, words, ends != 0, h.root) {
-            Survey::Unsound(_) => REFUSED,
-            Survey::Counted(k) => k.nodes,
-        },
+    let Ok(h) = header::open(words) else {
+        return REFUSED;
+    };
+    tree_survey::survey_tree(h.layout, words, ends != 0, h.root).map_or(REFUSED, |k| k.nodes)
+}
+
+// The end of the leaf that a step gave.
+#[tactic(auto, using(crate::proofs::Refused::no_end))]
+fn end_of(answer: Result<Option<Leaf>, Refusal>) -> u64
+    ensures { result ≡ end_number (next_leaf answer) }
+{
+    match answer {
+        Ok(Some(leaf)) => leaf.end_row_id.0,
+        Ok(None) => REFUSED,
+        Err(_) => REFUSED,
     }
 }
 
@@ -95,10 +91,5 @@ pub fn bench_next(words: &[u64], row: u64, list: &mut [u64]) -> u64
         done: false,
     };
     let step = next_words::next_words(words, cursor, list);
-    let answer = step.answer;
-    match answer {
-        NextLeaf::Refused(_) => REFUSED,
-        NextLeaf::Done => REFUSED,
-        NextLeaf::Found(leaf) => leaf.end_row_id.0,
-    }
+    end_of(step.answer)
 }

@@ -31,24 +31,7 @@ is_leaf f C P w n b k l e =
     record { inside = q.inside; many = t.many; rises = holds _ (sym (sound_if C w n 0 q.row b t) ∙ q.good) })
     (root-sound f C P w n b k l e)
 
-module _ (C : Shape) (w : List ℕ) (q n : ℕ) (b : Limit) where
-  pub found_none : count C w n ≡ 0 → found_in C w q (leaf n b) ≡ result []
-  unfolding found_in
-  found_none z = rw z
-
-  pub found-past : end C w n ≤ q → found_in C w q (leaf n b) ≡ result []
-  unfolding found_in
-  found-past l = rw (le-ltb q (end C w n) l, and-false)
-
-  pub found-page : 0 < count C w n → q < end C w n → found_in C w q (leaf n b) ≡ result (child C w n (to_row C w q n) ∷ [])
-  unfolding found_in
-  found-page z l = rw (lt-ltb 0 (count C w n) z, lt-ltb q (end C w n) l)
-
 module _ (C : Shape) (P : ℕ) (w : List ℕ) (n q : ℕ) where
-  pub outside : q < start C w n → find_in_tree C P w n q ≡ pick (root_sound C w n) (result []) (refused 2 n)
-  unfolding find_in_tree
-  outside l = rw (lt-ltb q (start C w n) l)
-
   pub inside : start C w n ≤ q → find_in_tree C P w n q ≡ found_in C w q (root_leaf (to_row C w q) C P w n)
   unfolding find_in_tree
   inside l = rw (le-ltb q (start C w n) l)

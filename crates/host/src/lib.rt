@@ -9,8 +9,7 @@ ghost use Rattle.answer_numbers.specs.Numbers.{answer_words};
 ghost use Rattle.answer_words.specs.Told.{Tells};
 ghost use Rattle.host.specs.Served.{append, check, create, destroy, destroy_empty, find, next, on_cursor, on_pages, on_walk, on_words, prune, seek, served};
 
-use answer_changes;
-use answer_reads;
+use answer_numbers::Numbers;
 use answer_words;
 use call_release_empty;
 use host_cursor;
@@ -28,7 +27,7 @@ pub fn row_page_index_create(
     ensures words { words.new ≡ (served (on_words words.old) (create capacity nodes start)).arrays.words }
     ensures answer { Tells answer.old (answer_words (served (on_words words.old) (create capacity nodes start)).answer) answer.new result }
 {
-    let n = answer_changes::created_numbers(call_create::new(words, capacity, nodes, RowID(start)));
+    let n = Numbers::from(call_create::new(words, capacity, nodes, RowID(start)));
     answer_words::tell(answer, n)
 }
 
@@ -37,7 +36,7 @@ pub fn row_page_index_append(words: &mut [u64], count: u64, page: u64, answer: &
     ensures words { words.new ≡ (served (on_words words.old) (append count page)).arrays.words }
     ensures answer { Tells answer.old (answer_words (served (on_words words.old) (append count page)).answer) answer.new result }
 {
-    let n = answer_changes::inserted_numbers(call_append::insert_row_page(
+    let n = Numbers::from(call_append::insert_row_page(
         words,
         count,
         PageID(page),
@@ -49,7 +48,7 @@ pub fn row_page_index_append(words: &mut [u64], count: u64, page: u64, answer: &
 pub fn row_page_index_find(words: &[u64], row: u64, answer: &mut [u64]) -> u64
     ensures answer { Tells answer.old (answer_words (served (on_words words.now) (find row)).answer) answer.new result }
 {
-    let n = answer_reads::location_numbers(call_find::try_find_row(words, RowID(row)));
+    let n = Numbers::from(call_find::try_find_row(words, RowID(row)));
     answer_words::tell(answer, n)
 }
 
@@ -64,7 +63,7 @@ pub fn row_page_index_prune(
     ensures words { words.new ≡ (served (on_words words.old) (prune start end ids.now)).arrays.words }
     ensures answer { Tells answer.old (answer_words (served (on_words words.old) (prune start end ids.now)).answer) answer.new result }
 {
-    let n = answer_changes::pruned_numbers(call_prune::prune_checkpoint_prefix(
+    let n = Numbers::from(call_prune::prune_checkpoint_prefix(
         words,
         RowID(start),
         RowID(end),
@@ -84,7 +83,7 @@ pub fn row_page_index_destroy(
     ensures list { pages.new ≡ (served (on_pages words.old pages.old) (destroy pivot)).arrays.pages }
     ensures answer { Tells answer.old (answer_words (served (on_pages words.old pages.old) (destroy pivot)).answer) answer.new result }
 {
-    let n = answer_changes::destroyed_numbers(call_release::destroy(words, RowID(pivot), pages));
+    let n = Numbers::from(call_release::destroy(words, RowID(pivot), pages));
     answer_words::tell(answer, n)
 }
 
@@ -93,7 +92,7 @@ pub fn row_page_index_destroy_empty(words: &mut [u64], answer: &mut [u64]) -> u6
     ensures words { words.new ≡ (served (on_words words.old) destroy_empty).arrays.words }
     ensures answer { Tells answer.old (answer_words (served (on_words words.old) destroy_empty).answer) answer.new result }
 {
-    let n = answer_changes::destroyed_numbers(call_release_empty::destroy_empty(words));
+    let n = Numbers::from(call_release_empty::destroy_empty(words));
     answer_words::tell(answer, n)
 }
 
@@ -101,7 +100,7 @@ pub fn row_page_index_destroy_empty(words: &mut [u64], answer: &mut [u64]) -> u6
 pub fn row_page_index_check(words: &[u64], answer: &mut [u64]) -> u64
     ensures answer { Tells answer.old (answer_words (served (on_words words.now) check).answer) answer.new result }
 {
-    let n = answer_reads::checked_numbers(call_check::full_check(words));
+    let n = Numbers::from(call_check::full_check(words));
     answer_words::tell(answer, n)
 }
 
@@ -128,6 +127,6 @@ pub fn row_page_index_next(
     let after = step.cursor;
     let given = step.answer;
     host_cursor::cursor_out(cursor, after, given);
-    let n = answer_reads::next_leaf_numbers(given);
+    let n = Numbers::from(given);
     answer_words::tell(answer, n)
 }

@@ -2,9 +2,12 @@
 
 #![tactic(auto)]
 
-ghost use Rattle.std.specs.Prelude.{◌≤◌};
+ghost use Rattle.std.specs.Prelude.{◌≡◌, ◌++◌, ◌≤◌, drop, take};
+ghost use Rattle.model.specs.LeafWalk.{next_leaf_of, seek};
+ghost use Rattle.model.specs.Refusals.{next_leaf};
+ghost use Rattle.model.specs.Words.{lent};
 
-use model::answer::NextLeaf;
+use model::answer::{Leaf, Refusal};
 use model::cursor::RowPageIndexMemCursor;
 use model::id::RowID;
 use model::node::PageEntry;
@@ -12,12 +15,14 @@ use model::node::PageEntry;
 // What a call leaves. No leaf has more entries than the list has records.
 #[derive(Clone, Copy)]
 pub struct LentStep {
-    pub answer: NextLeaf,
+    pub answer: Result<Option<Leaf>, Refusal>,
     pub cursor: RowPageIndexMemCursor,
     pub list: [PageEntry; 4094],
 }
 
-pub fn seek_on(cursor: RowPageIndexMemCursor, row: RowID) -> RowPageIndexMemCursor {
+pub fn seek_on(cursor: RowPageIndexMemCursor, row: RowID) -> RowPageIndexMemCursor
+    ensures { result ≡ seek row.0 }
+{
     let mut c = cursor;
     call_next::seek(&mut c, row);
     c
@@ -31,6 +36,9 @@ pub fn next_on(
     len: usize,
 ) -> LentStep
     requires { len ≤ 4094 }
+    ensures answer { next_leaf result.answer ≡ (next_leaf_of lent s.now cursor (take len records)).answer }
+    ensures cursor { result.cursor ≡ (next_leaf_of lent s.now cursor (take len records)).cursor }
+    ensures list { result.list ≡ (next_leaf_of lent s.now cursor (take len records)).list ++ drop len records }
 {
     let mut c = cursor;
     let mut list = records;

@@ -5,9 +5,6 @@ use Rattle.model.specs.declared.node.PageEntry.{PageEntry}
 use Rattle.node_read.specs.Layout.{shape_of, Fits}
 use Rattle.next_records.specs.declared.LeafEntries.{LeafEntries}
 
-abbrev pub no_entries : LeafEntries
-no_entries = record { layout = record { capacity = 0; pool = 0 }; leaf = record { 0 = 0 }; count = 0 }
-
 abbrev pub records_of : List ℕ → LeafEntries → List PageEntry
 records_of w e = records (shape_of e.layout) w e.leaf.0 0 e.count
 

@@ -6,7 +6,7 @@ ghost use Rattle.std.specs.Prelude.{◌≡◌, ◌<◌, ◌≤◌, length};
 ghost use Rattle.model.specs.Words.{child, fill, row};
 ghost use Rattle.model.specs.LeafWalk.{page_entry};
 ghost use Rattle.node_read.specs.Layout.{Fits, shape_of};
-ghost use Rattle.next_records.specs.Listing.{Readable, no_entries, records_of};
+ghost use Rattle.next_records.specs.Listing.{Readable, records_of};
 
 use model::id::NodeNo;
 use model::node::PageEntry;
@@ -18,21 +18,6 @@ pub struct LeafEntries {
     pub layout: Layout,
     pub leaf: NodeNo,
     pub count: usize,
-}
-
-impl LeafEntries {
-    pub fn none() -> Self
-        ensures { result ≡ no_entries }
-    {
-        LeafEntries {
-            layout: Layout {
-                capacity: 0,
-                pool: 0,
-            },
-            leaf: NodeNo(0),
-            count: 0,
-        }
-    }
 }
 
 // Entry i as a record.
@@ -52,9 +37,7 @@ pub fn copy_out(s: &[u64], list: &mut [PageEntry], e: LeafEntries)
     requires { Readable s.now e × (e.count ≤ length list.old) }
     ensures { list.new ≡ fill list.old 0 (records_of s.now e) }
 {
-    let mut i = 0;
-    while i < e.count {
+    for i in 0..e.count {
         list[i] = entry_at(s, e, i);
-        i += 1;
     }
 }

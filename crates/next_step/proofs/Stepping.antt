@@ -2,109 +2,92 @@
 use Prim.Native.Nat.{ℕ, ◌<◌, ◌≤◌}
 use mathlib.Core.List.{List, []}
 use mathlib.Core.Bool.{true, false}
-use mathlib.Core.Path.{◌≡◌, refl, sym, ap, ◌∙◌, subst}
+use mathlib.Core.Path.{◌≡◌, sym, ap, ◌∙◌, subst}
 use native.Mathlib.Omega.{arith}
 use lib.ListN.{length}
 use borrow.Author.Tests.{lt-ltb, le-ltb}
-use Rattle.model.specs.Words.{store_shape, lent, fill, capacity, pool, root}
-use Rattle.model.specs.Reading.{Reached, leaf, root_leaf, to_row}
-use Rattle.model.specs.Refusals.{Answer, result, refused, refusal, next_leaf}
-use Rattle.model.specs.LeafWalk.{Stepped, records, given, next_leaf_of}
-use Rattle.model.specs.declared.id.NodeNo.{NodeNo}
-use Rattle.model.specs.declared.node.PageEntry.{PageEntry}
+use Rattle.std.specs.Prelude.{Option, Some, None, Result, Ok, Err}
+use Rattle.model.specs.Words.{store_shape, lent, capacity, pool, root}
+use Rattle.model.specs.Reading.{leaf, root_leaf, to_row}
+use Rattle.model.specs.Refusals.{Answer, result, refused, refusal}
+use Rattle.model.specs.LeafWalk.{Stepped, given, next_leaf_of}
 use Rattle.model.specs.declared.answer.Refusal.{Refusal}
-use Rattle.model.specs.declared.answer.Refusal.TheVariants.{Unsound}
-use Rattle.model.specs.declared.answer.NextLeaf.{NextLeaf}
-use Rattle.model.specs.declared.answer.NextLeaf.TheVariants.{Refused}
+use Rattle.model.specs.declared.answer.Refusal.TheVariants.{ListTooShort, Unsound}
+use Rattle.model.specs.declared.answer.UnsoundNode.{UnsoundNode}
+use Rattle.model.specs.declared.node.PageEntry.{PageEntry}
 use Rattle.model.specs.declared.cursor.RowPageIndexMemCursor.{RowPageIndexMemCursor}
 use Rattle.node_read.specs.Layout.{shape_of, Fits, opened}
-use Rattle.node_test.specs.Test.{limit_of}
-use Rattle.node_read.specs.declared.layout.Layout.{Layout}
 use Rattle.node_read.specs.declared.header.StoreHeader.{StoreHeader}
-use Rattle.node_read.specs.declared.header.Opened.TheVariants as O
-use Rattle.node_test.specs.declared.Limit.{Limit}
-use Rattle.node_read.proofs.Opened.{IsOpen, is-refused, goes_on}
+use Rattle.node_read.proofs.Opened.{IsOpen, is-refused, goes_on, opens-fits}
+use Rattle.node_test.specs.Test.{limit_of}
 use Rattle.tree_path.specs.Reached.{reached_of}
-use Rattle.tree_path.specs.declared.path.Reached.{Reached as Path}
-use Rattle.tree_path.specs.declared.path.Reached.TheVariants.{Unsound as Stopped, Leaf as Arrived}
+use Rattle.tree_path.specs.declared.path.Reached.{Reached}
 use Rattle.call_find.specs.Leaf.{IsLeaf}
 use Rattle.call_find.proofs.Reach.{is_leaf}
-use Rattle.next_records.specs.Listing.{Readable, no_entries}
+use Rattle.next_records.specs.Listing.{Readable}
 use Rattle.next_step.specs.declared.LeafStep.{LeafStep}
-use Rattle.next_step.specs.Steps.{Steps, gives, on_list, stays}
+use Rattle.next_step.specs.Steps.{Steps, gives, on_list}
 
 -- nothing moves
 abbrev pub still : RowPageIndexMemCursor → List PageEntry → Answer → Stepped
 still c l a = record { answer = a; cursor = c; list = l }
 
-pub none_lie : (w : List ℕ) → Readable w no_entries
-none_lie w h = absurd (omega arith)
+module _ (w : List ℕ) (c : RowPageIndexMemCursor) (len : ℕ) where
+  no-leaf : {A : Type 0} (g : LeafStep) → ◌≡◌ {A = Result (Option LeafStep) Refusal} (Ok None) (Ok (Some g)) → A
+  no-leaf g e = let z : ◌≡◌ {A = ℕ} 0 1 = cc in absurd (omega arith)
 
-module _ (w : List ℕ) (c : RowPageIndexMemCursor) where
-  pub stay-on : (a : NextLeaf) (l : List PageEntry) → on_list w (stays a c) l ≡ still c l (next_leaf a)
-  unfolding fill records
-  stay-on a l = refl
+  no-refusal : {A : Type 0} (r : Refusal) (g : LeafStep) → ◌≡◌ {A = Result (Option LeafStep) Refusal} (Err r) (Ok (Some g)) → A
+  no-refusal r g e = let z : ◌≡◌ {A = ℕ} 0 1 = cc in absurd (omega arith)
 
-  -- no leaf
-  pub stay-steps : (len : ℕ) (a : NextLeaf) → ((l : List PageEntry) → length l ≡ len → next_leaf_of lent w c l ≡ still c l (next_leaf a)) → Steps w c len (stays a c)
-  stay-steps len a f = record { is = λ l e. stay-on a l ∙ sym (f l e); readable = none_lie w; fits = omega arith }
+  refuses : (r : Refusal) → ((l : List PageEntry) → length l ≡ len → next_leaf_of lent w c l ≡ still c l (refusal r)) → Steps w c len (Err r)
+  refuses r f = record { is = λ l e. sym (f l e); given = λ g e. no-refusal r g e }
 
-  pub give_on : (l : Layout) (n : NodeNo) (b : Limit) (list : List PageEntry) → on_list w (gives l w n b) list ≡ given (shape_of l) w c list (leaf n.0 (limit_of b))
-  unfolding given
-  give_on l n b list = refl
-
-  pub next-refused : (r : Refusal) → opened w ≡ O.Refused r → (l : List PageEntry) → next_leaf_of lent w c l ≡ still c l (refusal r)
+  pub steps-refused : (r : Refusal) → opened w ≡ Err r → Steps w c len (Err r)
   unfolding next_leaf_of
-  next-refused r e l = is-refused w r e (still c l) _
+  steps-refused r e = refuses r (λ l z. is-refused w r e (still c l) _)
 
-  module _ (h : StoreHeader) (o : IsOpen w h) (l : List PageEntry) where
-    pub next-short : length l < capacity w → next_leaf_of lent w c l ≡ still c l (refused 13 (capacity w))
+  module _ (h : StoreHeader) (o : IsOpen w h) where
+    pub steps-short : len < h.layout.capacity → Steps w c len (Err (ListTooShort h.layout.capacity))
     unfolding next_leaf_of
-    next-short g = goes_on w h o (still c l) _ ∙ rw (lt-ltb (length l) (capacity w) g)
+    steps-short g =
+        let e : h.layout.capacity ≡ capacity w = ap (λ (x : StoreHeader). x.layout.capacity) o.header_is in
+        refuses (ListTooShort h.layout.capacity) (λ l z. goes_on w h o (still c l) _ ∙ rw (e, lt-ltb (length l) (capacity w) (omega (arith, z, g, e))))
 
-    pub next-done : capacity w ≤ length l → c.done ≡ true → next_leaf_of lent w c l ≡ still c l (result [])
+    pub steps-done : h.layout.capacity ≤ len → c.done ≡ true → Steps w c len (Ok None)
     unfolding next_leaf_of
-    next-done g d = goes_on w h o (still c l) _ ∙ rw (le-ltb (length l) (capacity w) g, d)
+    steps-done g d =
+        let e : h.layout.capacity ≡ capacity w = ap (λ (x : StoreHeader). x.layout.capacity) o.header_is in
+        record {
+          is = λ l z. sym (goes_on w h o (still c l) _ ∙ rw (le-ltb (length l) (capacity w) (omega (arith, z, g, e)), d));
+          given = λ x e. no-leaf x e;
+        }
 
-    pub next-given : capacity w ≤ length l → c.done ≡ false
-        → next_leaf_of lent w c l ≡ given (store_shape lent w) w c l (root_leaf (to_row (store_shape lent w) w c.row_id.0) (store_shape lent w) (pool w) w (root w))
-    unfolding next_leaf_of
-    next-given g d = goes_on w h o (still c l) _ ∙ rw (le-ltb (length l) (capacity w) g, d)
+    module _ (g : h.layout.capacity ≤ len) (d : c.done ≡ false) where
+      -- the path to the leaf
+      abbrev pub Path : Type 0
+      Path = Result Reached UnsoundNode
 
--- in the tree of an open store
-module _ (l : Layout) (w : List ℕ) (root : ℕ) (c : RowPageIndexMemCursor) where
-  abbrev pub reached : Reached
-  reached = root_leaf (to_row (shape_of l) w c.row_id.0) (shape_of l) l.pool w root
+      pub goes : (p : Path) → reached_of p ≡ root_leaf (to_row (shape_of h.layout) w c.row_id.0) (shape_of h.layout) h.layout.pool w h.root.0
+          → (l : List PageEntry) → length l ≡ len → next_leaf_of lent w c l ≡ given (shape_of h.layout) w c l (reached_of p)
+      unfolding next_leaf_of
+      goes p says l z =
+          let e : h.layout.capacity ≡ capacity w = ap (λ (x : StoreHeader). x.layout.capacity) o.header_is in
+          goes_on w h o (still c l) _ ∙ rw (le-ltb (length l) (capacity w) (omega (arith, z, g, e)), d, says, o.header_is)
 
-  abbrev pub InTree : LeafStep → Type 0
-  InTree r =
-      ((list : List PageEntry) → on_list w r list ≡ given (shape_of l) w c list reached)
-      × (Readable w r.entries × (r.entries.count ≤ l.capacity))
+      pub steps-unsound : (u : UnsoundNode) → reached_of (Err u) ≡ root_leaf (to_row (shape_of h.layout) w c.row_id.0) (shape_of h.layout) h.layout.pool w h.root.0 → Steps w c len (Err (Unsound u.0))
+      unfolding given
+      steps-unsound u says = refuses (Unsound u.0) (λ l z. goes (Err u) says l z)
 
-  module _ (p : Path) (says : reached_of p ≡ reached) (root_in : root < l.pool) where
-    pub in_unsound : (n : NodeNo) → p ≡ Stopped n → InTree (stays (Refused (Unsound n)) c)
-    unfolding given
-    in_unsound n e = ((λ list. stay-on w c (Refused (Unsound n)) list ∙ ap (given (shape_of l) w c list) (sym (ap reached_of e) ∙ says)), (none_lie w, omega arith))
+      module _ (r : Reached) (says : reached_of (Ok r) ≡ root_leaf (to_row (shape_of h.layout) w c.row_id.0) (shape_of h.layout) h.layout.pool w h.root.0) where
+        sound-leaf : IsLeaf (shape_of h.layout) h.layout.pool w r.leaf.0
+        sound-leaf = is_leaf (to_row (shape_of h.layout) w c.row_id.0) (shape_of h.layout) h.layout.pool w r.leaf.0 (limit_of r.next) h.root.0 (opens-fits w h o).1 (sym says)
 
-    module _ (n : NodeNo) (b : Limit) (e : p ≡ Arrived n b) where
-      at_leaf : leaf n.0 (limit_of b) ≡ reached
-      at_leaf = sym (ap reached_of e) ∙ says
+        pub leaf_in : r.leaf.0 < h.layout.pool
+        leaf_in = sound-leaf.inside
 
-      sound-leaf : IsLeaf (shape_of l) l.pool w n.0
-      sound-leaf = is_leaf (to_row (shape_of l) w c.row_id.0) (shape_of l) l.pool w n.0 (limit_of b) root root_in (sym at_leaf)
-
-      pub leaf_in : n.0 < l.pool
-      leaf_in = sound-leaf.inside
-
-      pub in_leaf : Fits l w → InTree (gives l w n b)
-      in_leaf f = ((λ list. give_on w c l n b list ∙ ap (given (shape_of l) w c list) at_leaf), ((λ z. (f, (sound-leaf.inside, sound-leaf.many))), sound-leaf.many))
-
-pub tree-steps : (w : List ℕ) (c : RowPageIndexMemCursor) (h : StoreHeader) → IsOpen w h → (len : ℕ) (r : LeafStep) → capacity w ≤ len → c.done ≡ false
-    → InTree h.layout w h.root.0 c r → Steps w c len r
-tree-steps w c h o len r g d q =
-    let p = subst (λ (x : StoreHeader). InTree x.layout w x.root.0 c r) o.header_is q in
-    record {
-      is = λ l e. p.0 l ∙ sym (next-given w c h o l (omega (arith, e)) d);
-      readable = p.1.0;
-      fits = omega (arith, p.1.1);
-    }
+        pub steps-given : Steps w c len (Ok (Some (gives h.layout w r.leaf r.next)))
+        unfolding given
+        steps-given = record {
+          is = λ l z. sym (goes (Ok r) says l z);
+          given = λ x e. let k : gives h.layout w r.leaf r.next ≡ x = cc in subst (λ (y : LeafStep). Readable w y.entries × (y.entries.count ≤ len)) k ((λ z. ((opens-fits w h o).0, (sound-leaf.inside, sound-leaf.many))), omega (arith, sound-leaf.many));
+        }

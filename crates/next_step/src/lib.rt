@@ -2,47 +2,30 @@
 
 #![tactic(auto)]
 
-ghost use Rattle.std.specs.Prelude.{◌≡◌, List, ◌<◌, ◌≤◌};
-ghost use Rattle.model.specs.Reading.{root_leaf, to_row};
-ghost use Rattle.model.specs.LeafWalk.{given, seek};
-ghost use Rattle.node_read.specs.Layout.{Fits, shape_of};
-ghost use Rattle.next_records.specs.Listing.{Readable};
-ghost use Rattle.next_step.specs.Steps.{Steps, gives, on_list, stays};
+ghost use Rattle.std.specs.Prelude.{◌≡◌, ◌<◌};
+ghost use Rattle.model.specs.LeafWalk.{seek};
+ghost use Rattle.node_read.specs.Layout.{Fits};
+ghost use Rattle.next_step.specs.Steps.{Steps, gives};
 
-use model::answer::{Leaf, NextLeaf, Refusal};
+use model::answer::{Leaf, Refusal};
 use model::cursor::RowPageIndexMemCursor;
 use model::id::{NodeNo, RowID};
-use model::node::PageEntry;
 use next_records::LeafEntries;
 use node_read::header;
-use node_read::header::Opened;
 use node_read::layout::Layout;
-use node_test::Limit;
 use tree_path::path;
-use tree_path::path::Reached;
 
-// What a step by value gives: the answer, the cursor afterwards, and the entries to give out.
+// What a step by value gives: a leaf, the cursor afterwards, and the entries to give out.
 #[derive(Clone, Copy)]
 pub struct LeafStep {
-    pub answer: NextLeaf,
+    pub leaf: Leaf,
     pub cursor: RowPageIndexMemCursor,
     pub entries: LeafEntries,
 }
 
-// No leaf: nothing moves.
-fn stay(answer: NextLeaf, cursor: RowPageIndexMemCursor) -> LeafStep
-    ensures { result ≡ stays answer cursor }
-{
-    let entries = LeafEntries::none();
-    LeafStep {
-        answer,
-        cursor,
-        entries,
-    }
-}
-
 // The leaf reached, and what is next for it. After the last leaf the cursor is done.
-fn give(l: Layout, s: &[u64], n: NodeNo, next: Limit) -> LeafStep
+#[tactic(auto, unfolding(model::specs::LeafWalk::is_last))]
+fn give(l: Layout, s: &[u64], n: NodeNo, next: Option<RowID>) -> LeafStep
     requires fits { Fits l s.now }
     requires n_lt_pool { n.0 < l.pool }
     ensures { result ≡ gives l s.now n next }
@@ -50,16 +33,13 @@ fn give(l: Layout, s: &[u64], n: NodeNo, next: Limit) -> LeafStep
     let h = l.header(s, n);
     let start = h.start_row_id;
     let end = h.end_row_id;
-    let done = match next {
-        Limit::Open => true,
-        Limit::Below(_) => false,
-    };
+    let done = next.is_none();
     LeafStep {
-        answer: NextLeaf::Found(Leaf {
+        leaf: Leaf {
             start_row_id: start,
             end_row_id: end,
             count: h.count,
-        }),
+        },
         cursor: RowPageIndexMemCursor { row_id: end, done },
         entries: LeafEntries {
             layout: l,
@@ -69,40 +49,25 @@ fn give(l: Layout, s: &[u64], n: NodeNo, next: Limit) -> LeafStep
     }
 }
 
-// In the tree of an open store.
-fn step_in_tree(l: Layout, s: &[u64], root: NodeNo, cursor: RowPageIndexMemCursor) -> LeafStep
-    requires fits { Fits l s.now }
-    requires root_lt_pool { root.0 < l.pool }
-    ensures is { (list : List PageEntry) → on_list s.now result list ≡ given (shape_of l) s.now cursor list (root_leaf (to_row (shape_of l) s.now cursor.row_id.0) (shape_of l) l.pool s.now root.0) }
-    ensures lies { Readable s.now result.entries }
-    ensures few { result.entries.count ≤ l.capacity }
-{
-    let row = cursor.row_id;
-    match path::find_leaf(l, s, root, row) {
-        Reached::Unsound(n) => stay(NextLeaf::Refused(Refusal::Unsound(n)), cursor),
-        Reached::Leaf(n, next) => give(l, s, n, next),
-    }
-}
-
-// The step by value, for a list of this length.
-pub fn step(s: &[u64], cursor: RowPageIndexMemCursor, len: usize) -> LeafStep
+// The step by value, for a list of this length: none after the last leaf. Nothing moves but by a leaf.
+pub fn step(
+    s: &[u64],
+    cursor: RowPageIndexMemCursor,
+    len: usize,
+) -> Result<Option<LeafStep>, Refusal>
     ensures { Steps s.now cursor len result }
 {
-    match header::open(s) {
-        Opened::Refused(r) => stay(NextLeaf::Refused(r), cursor),
-        Opened::Open(h) => {
-            let l = h.layout;
-            let root = h.root;
-            let capacity = l.capacity;
-            if (len as u64) < capacity {
-                return stay(NextLeaf::Refused(Refusal::ListTooShort(capacity)), cursor);
-            }
-            if cursor.done {
-                return stay(NextLeaf::Done, cursor);
-            }
-            step_in_tree(l, s, root, cursor)
-        }
+    let h = header::open(s)?;
+    let l = h.layout;
+    let capacity = l.capacity;
+    if (len as u64) < capacity {
+        return Err(Refusal::ListTooShort(capacity));
     }
+    if cursor.done {
+        return Ok(None);
+    }
+    let reached = path::find_leaf(l, s, h.root, cursor.row_id)?;
+    Ok(Some(give(l, s, reached.leaf, reached.next)))
 }
 
 // A cursor sought to a row.

@@ -9,7 +9,7 @@ ghost use Rattle.model.specs.Refusals.{next_leaf};
 ghost use Rattle.next_records.specs.Listing.{Readable, records_of};
 ghost use Rattle.next_words.specs.Written.{WordSteps, record_words};
 
-use model::answer::NextLeaf;
+use model::answer::{Leaf, Refusal};
 use model::cursor::RowPageIndexMemCursor;
 use next_records::LeafEntries;
 use next_step;
@@ -17,18 +17,19 @@ use next_step;
 // The answer, and the cursor afterwards.
 #[derive(Clone, Copy)]
 pub struct WordStep {
-    pub answer: NextLeaf,
+    pub answer: Result<Option<Leaf>, Refusal>,
     pub cursor: RowPageIndexMemCursor,
 }
 
 // Whether a step gave a leaf.
-pub fn gives_leaf(a: NextLeaf) -> bool
+#[tactic(auto, unfolding(model::specs::LeafWalk::gives_leaf))]
+pub fn gives_leaf(a: Result<Option<Leaf>, Refusal>) -> bool
     ensures { result ≡ W.gives_leaf (next_leaf a) }
 {
     match a {
-        NextLeaf::Found(_) => true,
-        NextLeaf::Done => false,
-        NextLeaf::Refused(_) => false,
+        Ok(Some(_)) => true,
+        Ok(None) => false,
+        Err(_) => false,
     }
 }
 
@@ -37,11 +38,7 @@ fn copy_front(from: &[u64], out: &mut [u64])
     requires { length from.now ≤ length out.old }
     ensures { out.new ≡ fill out.old 0 from.now }
 {
-    let mut i: usize = 0;
-    while i < from.len() {
-        out[i] = from[i];
-        i += 1;
-    }
+    out[..from.len()].copy_from_slice(from);
 }
 
 // Row and page of each entry in turn: the words of the leaf's pairs as they stand.
@@ -49,27 +46,31 @@ fn copy_words(s: &[u64], out: &mut [u64], e: LeafEntries)
     requires { Readable s.now e × (2 * e.count ≤ length out.old) }
     ensures { out.new ≡ fill out.old 0 (record_words (records_of s.now e)) }
 {
-    let count = e.count;
-    if count == 0 {
+    if e.count == 0 {
         return;
     }
-    let l = e.layout;
-    let n = e.leaf;
-    let pairs = l.entries(s, n, count as u64);
-    copy_front(pairs, out);
+    copy_front(e.layout.entries(s, e.leaf, e.count as u64), out);
 }
 
 // `next` with a list of words in place of the list of records: two words to a record.
 pub fn next_words(s: &[u64], cursor: RowPageIndexMemCursor, out: &mut [u64]) -> WordStep
     ensures { WordSteps s.now cursor out.old out.new result }
 {
-    let p = next_step::step(s, cursor, out.len() / 2);
-    let entries = p.entries;
-    copy_words(s, out, entries);
-    let answer = p.answer;
-    let after = p.cursor;
-    WordStep {
-        answer,
-        cursor: after,
+    match next_step::step(s, cursor, out.len() / 2) {
+        Ok(Some(step)) => {
+            copy_words(s, out, step.entries);
+            WordStep {
+                answer: Ok(Some(step.leaf)),
+                cursor: step.cursor,
+            }
+        }
+        Ok(None) => WordStep {
+            answer: Ok(None),
+            cursor,
+        },
+        Err(r) => WordStep {
+            answer: Err(r),
+            cursor,
+        },
     }
 }

@@ -11,18 +11,6 @@ ghost use Rattle.node_place.specs.Place.{LiesIn};
 use model::id::{NodeNo, RowID};
 use node_read::layout::Layout;
 
-// The end of a part of so many entries from low on.
-fn part_end(low: u64, width: u64, count: u64) -> u64
-    requires { (low ≤ 4096) × (width ≤ 4096) }
-    ensures { result ≡ min (low + width) count }
-{
-    let end = low + width;
-    if count < end {
-        return count;
-    }
-    end
-}
-
 // The place of q lies in a part of so many entries from low on: the start of a part of step entries that it lies in. Every
 // step-th row is looked at, and no branch depends on one: the processor would guess it wrong half of the time.
 fn narrow(
@@ -41,14 +29,12 @@ fn narrow(
     requires lies_in { LiesIn (shape_of l) s.now q.0 n.0 count low width }
     ensures { LiesIn (shape_of l) s.now q.0 n.0 count result step }
 {
-    let end = part_end(low, width, count);
+    let end = count.min(low + width);
     let mut place = low;
-    let mut i = low + step;
-    while i < end {
-        if l.row(s, n, i).0 <= q.0 {
+    for i in (low + step..end).step_by(step as usize) {
+        if l.row(s, n, i) <= q {
             place = i;
         }
-        i += step;
     }
     place
 }

@@ -9,6 +9,7 @@ ghost use Rattle.script_records.specs.Records as R;
 ghost use Rattle.script_calls.specs.Calls.{perform};
 ghost use Rattle.script_calls.specs.Steps.{Does, memory};
 
+use answer_numbers::Numbers;
 use model::id::{PageID, RowID};
 
 // After a record: the words in use, the place after its lines, and whether the script goes on.
@@ -31,7 +32,7 @@ pub fn append_step(
     ensures { Does (perform (memory s.old used) (R.Append count page)) out.old at s.new out.new result }
 {
     let a = call_append::insert_row_page(&mut s[..used], count, PageID(page));
-    let n = answer_changes::inserted_numbers(a);
+    let n = Numbers::from(a);
     let place = answer_line::put_answer(out, at, b"append", b"append", n);
     Progress {
         used,
@@ -45,7 +46,7 @@ pub fn find_step(s: &[u64], used: usize, row: u64, out: &mut [u8], at: usize) ->
     ensures { Does (perform (memory s.now used) (R.Find row)) out.old at s.now out.new result }
 {
     let a = call_find::try_find_row(&s[..used], RowID(row));
-    let n = answer_reads::location_numbers(a);
+    let n = Numbers::from(a);
     let place = answer_line::put_answer(out, at, b"page", b"none", n);
     Progress {
         used,
@@ -60,7 +61,7 @@ pub fn release_step(s: &mut [u64], used: usize, pivot: u64, out: &mut [u8], at: 
 {
     let mut pages = [0u64; 2048];
     let a = call_release::destroy(&mut s[..used], RowID(pivot), &mut pages);
-    let n = answer_changes::destroyed_numbers(a);
+    let n = Numbers::from(a);
     let place = answer_line::put_answer(out, at, b"release", b"release", n);
     Progress {
         used,

@@ -55,7 +55,7 @@ pub fn create_step(
 {
     let len = create_length(s.len(), capacity, nodes);
     let a = call_create::new(&mut s[..len], capacity, nodes, RowID(start));
-    let n = answer_changes::created_numbers(a);
+    let n = Numbers::from(a);
     let place = answer_line::put_answer(out, at, b"create", b"create", n);
     Progress {
         used: used_after(n, len, used),

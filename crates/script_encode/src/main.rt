@@ -4,168 +4,166 @@
 
 #![tactic(auto)]
 
-ghost use Rattle.std.specs.Prelude.{◌≤◌};
+ghost use Rattle.std.specs.Prelude.{◌≤◌, length, IsTrue};
 
-use store_print::{STDERR_FILENO, STDOUT_FILENO};
-use store_text::line::{Input, Word};
-use store_text::number::Numbers;
+use std::io::{BufRead, BufReader};
+use std::{fmt, io};
+use store_text::line::{Shown, Words};
+use store_text::number::NumberError;
 use store_text::{line, number};
 
-// What is wrong with a word, by the place of its texts.
-const NO_NAME: u64 = 0;
+// The most numbers that a record has.
+const MAX_NUMBERS: usize = 511;
 
-const TOO_LARGE: u64 = 1;
-
-const NO_NUMBER: u64 = 2;
-
-// The message for a wrong word. A line with a message is not right, so this is false.
-fn refuse_word(at: u64, what: u64, b: &[u8], w: Word) -> bool {
-    store_print::say(
-        STDERR_FILENO,
-        b"line %: no call is named \"|line %: \"|line %: \"",
-        what,
-        at,
-        0,
-    );
-    store_print::wrong::say_word(STDERR_FILENO, b, w);
-    store_print::say(
-        STDERR_FILENO,
-        b"\"\n|\" is 2^64 or more\n|\" is no number\n",
-        what,
-        0,
-        0,
-    );
-    false
+#[derive(Clone, Copy, Debug, PartialEq, Eq)]
+enum Call {
+    Create = 1,
+    Append = 2,
+    Find = 3,
+    Prune = 4,
+    Walk = 5,
+    Release = 6,
 }
 
-// The message for a call that has so many numbers and takes more or fewer.
-fn refuse_count(at: u64, call: u64, has: u64) -> bool {
-    let mut text = call;
-    let mut shown = has;
-    if call == 3 {
-        if 511 < has {
-            text = 6;
-            shown = has - 2;
+impl Call {
+    fn from_name(name: &[u8]) -> Option<Call> {
+        match name {
+            b"create" => Some(Call::Create),
+            b"append" => Some(Call::Append),
+            b"find" => Some(Call::Find),
+            b"prune" => Some(Call::Prune),
+            b"walk" => Some(Call::Walk),
+            b"release" => Some(Call::Release),
+            _ => None,
         }
     }
-    store_print::say(STDERR_FILENO, b"line %: ", 0, at, 0);
-    store_print::say(
-        STDERR_FILENO,
-        b"create takes 3 numbers and has %\n|append takes 2 numbers and has %\n|find takes 1 number and has %\n|prune takes 2 numbers, then at most 509 page ids, and has %\n|walk takes 1 number and has %\n|release takes 1 number and has %\n|prune takes at most 509 page ids and has %\n",
-        text,
-        shown,
-        0,
-    );
-    false
+
+    // Whether it takes so many numbers. A prune takes two, and then page ids.
+    fn takes(self, count: usize) -> bool
+        ensures { IsTrue result → count ≤ 511 }
+    {
+        match self {
+            Call::Create => count == 3,
+            Call::Append => count == 2,
+            Call::Prune => 2 <= count && count <= MAX_NUMBERS,
+            Call::Find | Call::Walk | Call::Release => count == 1,
+        }
+    }
 }
 
-// Whether a call takes so many numbers. A prune takes two, and then page ids.
-fn is_size(call: u64, count: usize) -> bool {
-    match call {
-        0 => count == 3,
-        1 => count == 2,
-        3 => 2 <= count && count <= 511,
-        _ => count == 1,
+// What is wrong with a line.
+#[derive(Clone, Copy, Debug, PartialEq, Eq)]
+enum Fault<'a> {
+    LineTooLong,
+    NoCall(&'a [u8]),
+    Number(NumberError<'a>),
+    // a call with so many numbers, which takes more or fewer
+    Count(Call, usize),
+}
+
+impl<'a> From<NumberError<'a>> for Fault<'a> {
+    fn from(error: NumberError<'a>) -> Fault<'a> {
+        Fault::Number(error)
     }
+}
+
+impl fmt::Display for Fault<'_> {
+    fn fmt<W: fmt::Write>(&self, f: &mut fmt::Formatter<W>) -> fmt::Result {
+        match *self {
+            Fault::LineTooLong => write!(f, "longer than 65,535 bytes"),
+            Fault::NoCall(name) => write!(f, "no call is named \"{}\"", Shown(name)),
+            Fault::Number(NumberError::TooLarge(word)) => write!(
+                f,
+                "\"{}\" is 2^64 or more",
+                Shown(word)
+            ),
+            Fault::Number(NumberError::NoNumber(word)) => write!(
+                f,
+                "\"{}\" is no number",
+                Shown(word)
+            ),
+            Fault::Count(Call::Create, has) => write!(f, "create takes 3 numbers and has {has}"),
+            Fault::Count(Call::Append, has) => write!(f, "append takes 2 numbers and has {has}"),
+            Fault::Count(Call::Find, has) => write!(f, "find takes 1 number and has {has}"),
+            Fault::Count(Call::Prune, has) if MAX_NUMBERS < has => {
+                write!(f, "prune takes at most 509 page ids and has {}", has - 2)
+            }
+            Fault::Count(Call::Prune, has) => {
+                write!(
+                    f,
+                    "prune takes 2 numbers, then at most 509 page ids, and has {has}"
+                )
+            }
+            Fault::Count(Call::Walk, has) => write!(f, "walk takes 1 number and has {has}"),
+            Fault::Count(Call::Release, has) => write!(f, "release takes 1 number and has {has}"),
+        }
+    }
+}
+
+// The call of a line, and its numbers.
+#[derive(Clone, Copy)]
+struct Asked<'a> {
+    call: Call,
+    numbers: &'a [u64],
+    ghost fits: { length numbers.now ≤ 511 },
+}
+
+// What a line asks for; nothing where it has no word.
+fn read_call<'a, 'b>(
+    line: &'a [u8],
+    buffer: &'b mut [u64],
+) -> Result<Option<Asked<'b>>, Fault<'a>> {
+    let mut words = Words(line::before_comment(line));
+    let Some(name) = words.next() else {
+        return Ok(None);
+    };
+    let call = Call::from_name(name).ok_or(Fault::NoCall(name))?;
+    let numbers = number::read_numbers(words, buffer)?;
+    if !call.takes(numbers.len()) {
+        return Err(Fault::Count(call, numbers.len()));
+    }
+    Ok(Some(Asked { call, numbers }))
 }
 
 // Writes a record: its length and kind, then its words, the lowest byte of each first.
-fn write_record(kind: u64, words: &[u64; 512], count: usize)
-    requires { kind ≤ 6 }
-{
-    if 511 < count {
-        return;
+fn write_record(rt: &impl Print, asked: Asked<'_>) -> io::Result<()> {
+    let mut record = [0u8; 6 + 8 * MAX_NUMBERS];
+    let len = 6 + 8 * asked.numbers.len();
+    let (head, words) = record.split_at_mut(6);
+    head[..4].copy_from_slice(&(len as u32 - 4).to_le_bytes());
+    head[4..].copy_from_slice(&(asked.call as u16).to_le_bytes());
+    for (bytes, number) in words.chunks_exact_mut(8).zip(asked.numbers) {
+        bytes.copy_from_slice(&number.to_le_bytes());
     }
-    let mut b = [0u8; 4100];
-    let len = 6 + 8 * count;
-    let mut rest = 2 + 8 * (count as u64) + 4294967296 * kind;
-    let mut i: usize = 0;
-    while i < len {
-        if i % 8 == 6 {
-            rest = words[i / 8];
-        }
-        b[i] = (rest % 256) as u8;
-        rest = rest / 256;
-        i += 1;
-    }
-    io::write_all(STDOUT_FILENO, &b[0..len]);
+    rt.write_all(&record[..len])
 }
 
-// The record of a call with so many numbers. Whether it takes them.
-fn turn_call(at: u64, call: u64, words: &[u64; 512], count: usize) -> bool
-    requires { call ≤ 5 }
-{
-    if is_size(call, count) {
-        write_record(call + 1, words, count);
-        return true;
-    }
-    refuse_count(at, call, count as u64)
-}
-
-// The record of a line after the name of its call. Whether it is right.
-fn turn_numbers(at: u64, call: u64, b: &[u8], len: usize, start: usize) -> bool
-    requires { call ≤ 5 }
-{
-    let mut words = [0u64; 512];
-    match number::read_numbers(b, len, start, &mut words) {
-        Numbers::All(count) => turn_call(at, call, &words, count),
-        Numbers::TooLarge(w) => refuse_word(at, TOO_LARGE, b, w),
-        Numbers::NoNumber(w) => refuse_word(at, NO_NUMBER, b, w),
-    }
-}
-
-// The record of a line. Whether it is right.
-fn turn_line(at: u64, b: &[u8], len: usize) -> bool {
-    let end = line::before_comment(b, len);
-    let first = line::next_word(b, end, 0);
-    if first.from == first.to {
-        return true;
-    }
-    let call = line::find_name(b, first, b"create|append|find|prune|walk|release");
-    if 5 < call {
-        return refuse_word(at, NO_NAME, b, first);
-    }
-    turn_numbers(at, call, b, end, first.to)
-}
-
-// A line that was read, without its end. Whether it is right. A program has no exit status, so one bad record follows a
-// wrong line: what was written up to here is no good script.
-fn take_line(at: u64, b: &[u8], len: usize) -> bool {
-    let mut right = false;
-    if 65535 < len {
-        store_print::say(
-            STDERR_FILENO,
-            b"line %: longer than 65,535 bytes\n",
-            0,
-            at,
-            0,
-        );
-    } else {
-        right = turn_line(at, b, len);
-    }
-    if !right {
-        io::write_all(STDOUT_FILENO, b"\x02\0\0\0\0\0");
-    }
-    right
+// A wrong line has one bad record: what was written up to here is no good script.
+fn write_fault(rt: &(impl Print + Eprint), at: u64, fault: Fault<'_>) -> io::Result<()> {
+    eprintln!(rt; "line {at}: {fault}")?;
+    rt.write_all(b"\x02\0\0\0\0\0")
 }
 
 // A proved loop has to end, and nothing says that the input does: the lines are counted up to a number that no run reaches.
-fn main(rt: HostRuntime) {
-    let mut reader = rt.stdin();
-    let mut block = io::buffer();
-    let mut b = io::large_buffer();
-    let mut input = Input { at: 0, end: 0 };
-    let mut at: u64 = 1;
-    while at < u64::MAX {
-        let l = line::read_line(&mut reader, &mut block, input, &mut b);
-        if !l.is_there {
-            return;
+fn encode(rt: &(impl Print + Eprint), reader: &mut impl BufRead) -> io::Result<()> {
+    let mut buffer = [0u8; 65535];
+    let mut numbers = [0u64; 32768];
+    for at in 1..u64::MAX {
+        let Some(read) = line::read_line(reader, &mut buffer) else {
+            break;
+        };
+        let Ok(line) = read else {
+            return write_fault(rt, at, Fault::LineTooLong);
+        };
+        match read_call(line, &mut numbers) {
+            Ok(Some(asked)) => write_record(rt, asked)?,
+            Ok(None) => {}
+            Err(fault) => return write_fault(rt, at, fault),
         }
-        input = l.input;
-        let right = take_line(at, &b, l.len);
-        if !right {
-            return;
-        }
-        at += 1;
     }
+    Ok(())
+}
+
+fn main(rt: HostRuntime) -> io::Result<()> {
+    encode(&rt, &mut BufReader::new(rt.alloc(), rt.stdin())?)
 }

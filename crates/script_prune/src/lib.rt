@@ -8,6 +8,7 @@ ghost use Rattle.script_records.specs.Read.{body_words};
 ghost use Rattle.script_calls.specs.Calls.{perform};
 ghost use Rattle.script_calls.specs.Steps.{Does, memory};
 
+use answer_numbers::Numbers;
 use model::id::RowID;
 use script_calls::Progress;
 
@@ -32,7 +33,7 @@ pub fn prune_step(
         RowID(end),
         &ids[..k],
     );
-    let n = answer_changes::pruned_numbers(a);
+    let n = Numbers::from(a);
     let place = answer_line::put_answer(out, at, b"prune", b"prune", n);
     Progress {
         used,

@@ -11,6 +11,7 @@ ghost use Rattle.script_calls.specs.Calls.{lent_records, perform, walk_lines};
 ghost use Rattle.script_calls.specs.Steps.{Does, memory};
 ghost use Rattle.script_walk.specs.Walked.{WalkPuts};
 
+use answer_numbers::Numbers;
 use model::cursor::RowPageIndexMemCursor;
 use model::id::RowID;
 use script_calls::Progress;
@@ -36,7 +37,7 @@ fn walk_once(
     let step = next_words::next_words(s, cursor, list);
     let answer = step.answer;
     let next = step.cursor;
-    let n = answer_reads::next_leaf_numbers(answer);
+    let n = Numbers::from(answer);
     let place = answer_line::put_answer(out, at, b"leaf", b"end", n);
     WalkStep {
         cursor: next,

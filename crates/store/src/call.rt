@@ -1,99 +1,103 @@
-// The calls on a store that are lent its words, each with its lines.
+// The calls on the words that are lent, each with its lines.
 
-use crate::kind;
-use answer_changes;
-use answer_reads;
-use call_append;
-use call_check;
-use call_create;
-use call_find;
-use call_prune;
-use call_release;
-use call_release_empty;
+use model::answer::Leaf;
+use model::cursor::RowPageIndexMemCursor;
 use model::id::{PageID, RowID};
-use store_print;
+use model::node::PageEntry;
+use std::{fmt, io};
+use store_print::List;
 
-// Number i of a line.
-pub fn number(n: &[u64], i: usize) -> u64 {
-    if i < n.len() {
-        return n[i];
-    }
-    0
+pub fn append(rt: &impl Print, s: &mut [u64], count: u64, page: PageID) -> io::Result<()> {
+    let answer = call_append::insert_row_page(s, count, page);
+    store_print::print_answer(rt, b"append", b"append", answer)
 }
 
-// Whether it was done.
-pub fn create(s: &mut [u64], n: &[u64]) -> bool {
-    let a = call_create::new(s, number(n, 0), number(n, 1), RowID(number(n, 2)));
-    let answer = answer_changes::created_numbers(a);
-    store_print::tell_answer(b"create", b"create", answer);
-    answer.number == 0
+pub fn find(rt: &impl Print, s: &[u64], row: RowID) -> io::Result<()> {
+    store_print::print_answer(rt, b"page", b"none", call_find::try_find_row(s, row))
 }
 
-fn append(s: &mut [u64], n: &[u64]) {
-    let a = call_append::insert_row_page(s, number(n, 0), PageID(number(n, 1)));
-    store_print::tell_answer(b"append", b"append", answer_changes::inserted_numbers(a));
+pub fn prune(
+    rt: &impl Print,
+    s: &mut [u64],
+    start: RowID,
+    end: RowID,
+    pages: &[u64],
+) -> io::Result<()> {
+    let answer = call_prune::prune_checkpoint_prefix(s, start, end, pages);
+    store_print::print_answer(rt, b"prune", b"prune", answer)
 }
 
-fn find(s: &[u64], row: u64) {
-    let a = call_find::try_find_row(s, RowID(row));
-    store_print::tell_answer(b"page", b"none", answer_reads::location_numbers(a));
-}
-
-fn prune(s: &mut [u64], n: &[u64]) {
-    if n.len() < 2 {
-        return;
-    }
-    let a = call_prune::prune_checkpoint_prefix(s, RowID(n[0]), RowID(n[1]), &n[2..]);
-    store_print::tell_answer(b"prune", b"prune", answer_changes::pruned_numbers(a));
-}
-
-// The page ids of a release that was done.
-fn tell_pages(pages: &[u64], count: u64) {
-    if count <= pages.len() as u64 {
-        let len = count as usize;
-        store_print::tell(b"pages", 0, 0, 0);
-        store_print::tell_numbers(&pages[0..len]);
-    }
-}
-
-fn release(s: &mut [u64], pivot: u64, pages: &mut [u64]) {
-    let answer = answer_changes::destroyed_numbers(call_release::destroy(s, RowID(pivot), pages));
-    store_print::tell_answer(b"release", b"release", answer);
-    if answer.number == 0 {
-        tell_pages(pages, answer.second);
-    }
-}
-
-// With a list of so many page ids.
-fn release_into(s: &mut [u64], pivot: u64, len: usize) {
+// With a list of at most so many page ids, which are written where it is done.
+pub fn release(rt: &impl Print, s: &mut [u64], pivot: RowID, most: usize) -> io::Result<()> {
     let mut pages = [0u64; 32768];
-    if len <= 32768 {
-        release(s, pivot, &mut pages[0..len]);
+    let len = most.min(pages.len());
+    let answer = call_release::destroy(s, pivot, &mut pages[..len]);
+    store_print::print_answer(rt, b"release", b"release", answer)?;
+    if let Ok(released) = answer {
+        if let Some(given) = pages.get(..released.pages as usize) {
+            println!(rt; "pages{}", List(given))?;
+        }
+    }
+    Ok(())
+}
+
+pub fn release_empty(rt: &impl Print, s: &mut [u64]) -> io::Result<()> {
+    let answer = call_release_empty::destroy_empty(s);
+    store_print::print_answer(rt, b"release", b"release", answer)
+}
+
+// The rows and pages of records.
+#[derive(Clone, Copy)]
+struct Entries<'a>(&'a [PageEntry]);
+
+impl fmt::Display for Entries<'_> {
+    fn fmt<W: fmt::Write>(&self, f: &mut fmt::Formatter<W>) -> fmt::Result {
+        for entry in self.0 {
+            write!(f, " {} {}", entry.row_id.0, entry.page_id.0)?;
+        }
+        Ok(())
     }
 }
 
-fn release_empty(s: &mut [u64]) {
-    let a = call_release_empty::destroy_empty(s);
-    store_print::tell_answer(b"release", b"release", answer_changes::destroyed_numbers(a));
+// A step of the leaf walk with a list of at most so many records, and its line. The entries of the leaf go into the list.
+fn step(
+    rt: &impl Print,
+    s: &[u64],
+    cursor: &mut RowPageIndexMemCursor,
+    records: &mut [PageEntry],
+    most: usize,
+) -> io::Result<Option<Leaf>> {
+    let len = most.min(records.len());
+    let answer = call_next::next(cursor, s, &mut records[..len]);
+    store_print::print_answer(rt, b"leaf", b"end", answer)?;
+    Ok(answer.unwrap_or(None))
 }
 
-// One of the calls from append to check, with lists of so many.
-pub fn perform(k: u64, s: &mut [u64], n: &[u64], len: usize) {
-    let first = number(n, 0);
-    if k == kind::APPEND {
-        return append(s, n);
+// A step, and the entries of its leaf.
+pub fn next(
+    rt: &impl Print,
+    s: &[u64],
+    cursor: &mut RowPageIndexMemCursor,
+    most: usize,
+) -> io::Result<()> {
+    let mut records = [PageEntry::new(RowID(0), PageID(0)); 4094];
+    if let Some(leaf) = step(rt, s, cursor, &mut records, most)? {
+        if let Some(entries) = records.get(..leaf.count as usize) {
+            println!(rt; "entries{}", Entries(entries))?;
+        }
     }
-    if k == kind::FIND {
-        return find(s, first);
+    Ok(())
+}
+
+// Steps from a row on until there is no leaf, or the most that a pool can hold.
+pub fn walk(rt: &impl Print, s: &[u64], row: RowID, most: usize) -> io::Result<()> {
+    let mut records = [PageEntry::new(RowID(0), PageID(0)); 4094];
+    let mut cursor = RowPageIndexMemCursor::new();
+    call_next::seek(&mut cursor, row);
+    for _ in 0..65535 {
+        if step(rt, s, &mut cursor, &mut records, most)?.is_none() {
+            break;
+        }
     }
-    if k == kind::PRUNE {
-        return prune(s, n);
-    }
-    if k == kind::RELEASE {
-        return release_into(s, first, len);
-    }
-    if k == kind::RELEASE_EMPTY {
-        return release_empty(s);
-    }
-    store_print::tell_checked(call_check::full_check(s));
+    Ok(())
 }

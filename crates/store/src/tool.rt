@@ -1,122 +1,52 @@
-// What is done to the words of a store without a call. Each function answers what is wrong with its line.
+// What is done to the words of a store without a call.
 
-ghost use Rattle.std.specs.Prelude.{◌≤◌, ◌<◌, length};
-
-use crate::{call, kind};
+use crate::wrong::Wrong;
 use model::answer::Refusal;
 use node_read::header;
-use node_read::header::Opened;
-use store_picture;
-use store_picture::{chain, words};
-use store_print;
-use store_print::wrong;
+use std::io;
+use store_picture::chain::Chain;
+use store_picture::words;
+use store_print::List;
 
-// Where the line of a dump from place i on ends.
-fn line_end(i: usize, to: usize) -> usize
-    requires { i < to }
-    ensures { (i < result) × (result ≤ to) }
-{
-    if to - i <= 8 {
-        return to;
-    }
-    i + 8
+// The words from a place on become these.
+pub fn load(s: &mut [u64], place: u64, words: &[u64]) -> Result<(), Wrong<'static>> {
+    words::load(s, place as usize, words).ok_or(Wrong::NoSuchWord)
+}
+
+// Word j of node n becomes x.
+pub fn put(s: &mut [u64], n: u64, j: u64, x: u64) -> Result<(), Wrong<'static>> {
+    words::put(s, n, j, x).ok_or(Wrong::NoSuchNode)
 }
 
 // The words between two places, eight to a line: each line loads them again.
-fn tell_words(s: &[u64], from: usize, to: usize)
-    requires { to ≤ length s.now }
-{
-    let mut i = from;
-    while i < to {
-        let end = line_end(i, to);
-        store_print::tell(b"load %", 0, i as u64, 0);
-        store_print::tell_numbers(&s[i..end]);
-        i = end;
+pub fn dump(rt: &impl Print, s: &[u64], from: usize, to: usize) -> io::Result<()> {
+    for at in (from..to).step_by(8) {
+        let end = to.min(at.saturating_add(8));
+        if let Some(words) = s.get(at..end) {
+            println!(rt; "load {at}{}", List(words))?;
+        }
     }
+    Ok(())
 }
 
-// The words from a place on, so many; all where there are no numbers.
-fn dump(s: &[u64], n: &[u64]) -> u64 {
-    let all = s.len();
-    if n.len() < 2 {
-        tell_words(s, 0, all);
-        return wrong::NOTHING;
+// The place after so many words from a place on.
+pub fn end_of(s: &[u64], from: u64, many: u64) -> Result<usize, Wrong<'static>> {
+    match from.checked_add(many) {
+        Some(end) if end <= s.len() as u64 => Ok(end as usize),
+        _ => Err(Wrong::NoSuchWord),
     }
-    let from = n[0] as usize;
-    let many = n[1] as usize;
-    if all < many {
-        return wrong::NO_SUCH_WORD;
-    }
-    if all - many < from {
-        return wrong::NO_SUCH_WORD;
-    }
-    tell_words(s, from, from + many);
-    wrong::NOTHING
 }
 
 // The chain's line, of a closed store too; or the refusal for its header.
-fn tell_chain(s: &[u64]) {
-    if let Opened::Refused(r) = header::open(s) {
-        let Refusal::Closed = r else {
-            return store_print::tell_refusal(r);
-        };
+pub fn print_chain(rt: &impl Print, s: &[u64]) -> io::Result<()> {
+    match header::open(s) {
+        Ok(_) | Err(Refusal::Closed) => {}
+        Err(refusal) => return store_print::print_refusal(rt, refusal),
     }
-    store_print::tell(b"chain", 0, 0, 0);
-    let c = chain::follow(s, chain::NUMBERS);
-    store_print::tell(b" %\n", 0, c.next, 0);
-}
-
-// A word or words from a place on.
-fn load(s: &mut [u64], n: &[u64]) -> bool {
-    if n.len() < 1 {
-        return false;
+    print!(rt; "chain")?;
+    let mut chain = Chain::new(s);
+    for n in chain.by_ref() {
+        print!(rt; " {n}")?;
     }
-    words::load(s, n[0] as usize, &n[1..])
-}
-
-// One of `set`, `put`, `fill`, `load`. Whether there is such a place.
-fn is_changed(k: u64, s: &mut [u64], n: &[u64]) -> bool {
-    let first = call::number(n, 0);
-    if k == kind::FILL {
-        words::fill(s, first);
-        return true;
-    }
-    if k == kind::PUT {
-        return words::put(s, first, call::number(n, 1), call::number(n, 2));
-    }
-    load(s, n)
-}
-
-fn change(k: u64, s: &mut [u64], n: &[u64]) -> u64
-    requires { 13 ≤ k }
-{
-    if is_changed(k, s, n) {
-        store_print::tell(b"set\n|put\n|fill\n|load\n", k - kind::SET, 0, 0);
-        return wrong::NOTHING;
-    }
-    if k == kind::PUT {
-        return wrong::NO_SUCH_NODE;
-    }
-    wrong::NO_SUCH_WORD
-}
-
-pub fn use_tool(k: u64, s: &mut [u64], n: &[u64]) -> u64
-    requires { 13 ≤ k }
-{
-    if k <= kind::LOAD {
-        return change(k, s, n);
-    }
-    if k == kind::DUMP {
-        return dump(s, n);
-    }
-    if k == kind::CHAIN {
-        tell_chain(s);
-        return wrong::NOTHING;
-    }
-    if k == kind::SHAPE {
-        store_picture::shape(s);
-        return wrong::NOTHING;
-    }
-    store_picture::picture(s);
-    wrong::NOTHING
+    println!(rt; " {}", chain.after)
 }

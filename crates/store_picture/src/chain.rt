@@ -1,50 +1,46 @@
 // The free chain of any words.
 
+ghost use Rattle.std.specs.Prelude.{◌-◌};
+ghost use Rattle.std.specs.Iterator.{at_most};
+
 use crate::words;
-use model::node::RowPageIndexNodeHeader;
 use node_read::layout::Layout;
-use store_print;
-
-// How the chain is followed: each number written, each written as a node, or up to a node that is not free.
-pub const NUMBERS: u64 = 0;
-
-pub const NODES: u64 = 1;
-
-pub const FREE: u64 = 2;
-
-// How many nodes were followed, and the number after them.
-#[derive(Clone, Copy)]
-pub struct Followed {
-    pub count: u64,
-    pub next: u64,
-}
-
-// Whether n stands in the chain after k others: the free count is above k, and it is below P; where the nodes have to be free,
-// it is marked so.
-fn is_in(s: &[u64], how: u64, k: u64, n: u64) -> bool {
-    if words::word(s, 4) <= k {
-        return false;
-    }
-    if words::word(s, 1) <= n {
-        return false;
-    }
-    if how != FREE {
-        return true;
-    }
-    words::part(s, n, 0) == RowPageIndexNodeHeader::FREE_MARK
-}
 
 // The nodes of the chain in its order: as many as the free count says, up to the first number that is not below P.
-pub fn follow(s: &[u64], how: u64) -> Followed {
-    let mut next = words::word(s, 3);
-    let mut count: u64 = 0;
-    while count < Layout::MAX_POOL {
-        if !is_in(s, how, count, next) {
-            break;
+#[derive(Clone, Copy)]
+pub struct Chain<'a> {
+    words: &'a [u64],
+    // the nodes that were given
+    pub count: u64,
+    // the number after them
+    pub after: u64,
+}
+
+impl<'a> Chain<'a> {
+    pub fn new(words: &'a [u64]) -> Chain<'a> {
+        Chain {
+            words,
+            count: 0,
+            after: words::word(words, 3),
         }
-        store_print::tell(b" %| #%|", how, next, 0);
-        next = words::part(s, next, 1);
-        count += 1;
     }
-    Followed { count, next }
+}
+
+impl Iterator for Chain<'_> {
+    type Item = u64;
+
+    ghost remaining = { λ chain. at_most (65535 - chain.count) };
+
+    fn next(&mut self) -> Option<u64> {
+        if Layout::MAX_POOL <= self.count || words::word(self.words, 4) <= self.count {
+            return None;
+        }
+        if words::word(self.words, 1) <= self.after {
+            return None;
+        }
+        let n = self.after;
+        self.after = words::part(self.words, n, 1);
+        self.count += 1;
+        Some(n)
+    }
 }

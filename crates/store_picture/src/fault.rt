@@ -1,163 +1,163 @@
-// What is wrong with a node, in the order of the node test; then its child numbers and a branch's end. Each function writes the
-// first fault that it finds, and answers whether it found one.
+// What is wrong with a node, in the order of the node test; then its child numbers and a branch's end. Each function gives the
+// first fault that it finds.
 
+use crate::walk::Node;
 use crate::words;
 use model::node::RowPageIndexNodeHeader;
-use store_print;
+use std::fmt;
+use store_print::Row;
 
-// The texts by their places.
-const HEIGHT: u64 = 0;
-
-const COUNT: u64 = 1;
-
-const START: u64 = 2;
-
-const FIRST_ROW: u64 = 3;
-
-const ROW: u64 = 4;
-
-const LOW_END: u64 = 5;
-
-const HIGH_END: u64 = 6;
-
-const OTHER_END: u64 = 7;
-
-const CHILD: u64 = 8;
-
-const NOT_NONE: u64 = 9;
-
-const NOT_NONE_NOR: u64 = 10;
-
-const HIGH_START: u64 = 11;
-
-// A fault: what is, and what is wanted, or what it must be above or below.
-fn tell(text: u64, is: u64, wanted: u64) -> bool {
-    store_print::tell(
-        b"its height is %, wanted %|its count is %, wanted 1 to %|its start is &, wanted &|its first row is &, wanted &|row & is not above the row before it, entry %|its end is &, wanted above its last row &|its end is &, wanted at most &|its end is &, wanted the next row &|its child number % is not below %|its end is &, wanted NONE|its end is &, wanted NONE or the next row &|its start is &, wanted at most &",
-        text,
-        is,
-        wanted,
-    );
-    true
+// What is, and what is wanted, or what it must be above or below.
+#[derive(Clone, Copy, Debug, PartialEq, Eq)]
+pub enum Fault {
+    Height { is: u64, wanted: u64 },
+    Count { is: u64, capacity: u64 },
+    Start { is: Row, wanted: Row },
+    HighStart { is: Row },
+    FirstRow { is: Row, wanted: Row },
+    Row { is: Row, entry: u64 },
+    LowEnd { is: Row, last_row: Row },
+    HighEnd { is: Row },
+    OtherEnd { is: Row, next: Row },
+    Child { is: u64, nodes: u64 },
+    BranchEnd { is: Row, next: Option<Row> },
 }
 
-// Whether entry i falls: its row is not above the one before it; or, of the child numbers, whether it is out of range.
-fn is_wrong(s: &[u64], n: u64, i: u64, of_child: bool) -> bool {
-    if of_child {
-        return words::word(s, 1) <= words::child(s, n, i);
-    }
-    if i == 0 {
-        return false;
-    }
-    words::row(s, n, i) <= words::row(s, n, i - 1)
-}
+const ROW_LIMIT: Row = Row(RowPageIndexNodeHeader::ROW_LIMIT);
 
-// The first entry that is wrong; the count where none is.
-fn first_wrong(s: &[u64], n: u64, count: u64, of_child: bool) -> u64 {
-    let mut i: u64 = 0;
-    while i < count {
-        if is_wrong(s, n, i, of_child) {
-            return i;
+impl fmt::Display for Fault {
+    fn fmt<W: fmt::Write>(&self, f: &mut fmt::Formatter<W>) -> fmt::Result {
+        match *self {
+            Fault::Height { is, wanted } => write!(f, "its height is {is}, wanted {wanted}"),
+            Fault::Count { is, capacity } => {
+                write!(f, "its count is {is}, wanted 1 to {capacity}")
+            }
+            Fault::Start { is, wanted } => write!(f, "its start is {is}, wanted {wanted}"),
+            Fault::HighStart { is } => write!(f, "its start is {is}, wanted at most {ROW_LIMIT}"),
+            Fault::FirstRow { is, wanted } => write!(f, "its first row is {is}, wanted {wanted}"),
+            Fault::Row { is, entry } => {
+                write!(f, "row {is} is not above the row before it, entry {entry}")
+            }
+            Fault::LowEnd { is, last_row } => {
+                write!(f, "its end is {is}, wanted above its last row {last_row}")
+            }
+            Fault::HighEnd { is } => write!(f, "its end is {is}, wanted at most {ROW_LIMIT}"),
+            Fault::OtherEnd { is, next } => {
+                write!(f, "its end is {is}, wanted the next row {next}")
+            }
+            Fault::Child { is, nodes } => write!(f, "its child number {is} is not below {nodes}"),
+            Fault::BranchEnd { is, next: None } => write!(f, "its end is {is}, wanted NONE"),
+            Fault::BranchEnd {
+                is,
+                next: Some(next),
+            } => { write!(f, "its end is {is}, wanted NONE or the next row {next}") }
         }
-        i += 1;
     }
-    count
-}
-
-// An end that is not the next row.
-fn tell_other(end: u64, next: u64, text: u64) -> bool {
-    if end == next {
-        return false;
-    }
-    tell(text, end, next)
 }
 
 // A leaf's end, before the next row where there is one.
-fn tell_leaf_end(end: u64, is_before: bool, next: u64) -> bool {
+fn check_leaf_end(end: u64, next: Option<u64>) -> Result<(), Fault> {
     if RowPageIndexNodeHeader::ROW_LIMIT < end {
-        return tell(HIGH_END, end, RowPageIndexNodeHeader::ROW_LIMIT);
+        return Err(Fault::HighEnd { is: Row(end) });
     }
-    if is_before {
-        return tell_other(end, next, OTHER_END);
+    match next {
+        Some(next) if end != next => Err(Fault::OtherEnd {
+            is: Row(end),
+            next: Row(next),
+        }),
+        _ => Ok(()),
     }
-    false
 }
 
 // The end of a branch, or of an empty root: NONE, or the next row where there is one.
-fn tell_branch_end(end: u64, is_before: bool, next: u64) -> bool {
-    if end == RowPageIndexNodeHeader::NONE {
-        return false;
+fn check_branch_end(end: u64, next: Option<u64>) -> Result<(), Fault> {
+    if end == RowPageIndexNodeHeader::NONE || next == Some(end) {
+        return Ok(());
     }
-    if is_before {
-        return tell_other(end, next, NOT_NONE_NOR);
-    }
-    tell(NOT_NONE, end, 0)
+    Err(Fault::BranchEnd {
+        is: Row(end),
+        next: next.map(Row),
+    })
 }
 
 // Child numbers and end of a node whose rows rise up to this one.
-fn tell_end(s: &[u64], n: u64, count: u64, last: u64, is_before: bool, next: u64) -> bool {
+fn check_end(s: &[u64], node: Node, count: u64, last_row: u64) -> Result<(), Fault> {
+    let n = node.number;
     let end = words::part(s, n, 3);
-    if end <= last {
-        return tell(LOW_END, end, last);
+    if end <= last_row {
+        return Err(Fault::LowEnd {
+            is: Row(end),
+            last_row: Row(last_row),
+        });
     }
     if words::part(s, n, 0) == 0 {
-        return tell_leaf_end(end, is_before, next);
+        return check_leaf_end(end, node.next);
     }
-    let out = first_wrong(s, n, count, true);
-    if out < count {
-        return tell(CHILD, words::child(s, n, out), words::word(s, 1));
+    let nodes = words::word(s, 1);
+    for i in 0..count {
+        let is = words::child(s, n, i);
+        if nodes <= is {
+            return Err(Fault::Child { is, nodes });
+        }
     }
-    tell_branch_end(end, is_before, next)
+    check_branch_end(end, node.next)
 }
 
 // Rows, child numbers and end of a node whose count is in range.
-fn tell_entries(s: &[u64], n: u64, is_before: bool, next: u64) -> bool {
-    let count = words::entries(s, n);
-    if count == 0 {
-        return false;
+fn check_entries(s: &[u64], node: Node, count: u64) -> Result<(), Fault> {
+    let n = node.number;
+    let mut last_row = words::row(s, n, 0);
+    for entry in 1..count {
+        let is = words::row(s, n, entry);
+        if is <= last_row {
+            return Err(Fault::Row { is: Row(is), entry });
+        }
+        last_row = is;
     }
-    let fall = first_wrong(s, n, count, false);
-    if fall < count {
-        return tell(ROW, words::row(s, n, fall), fall);
-    }
-    tell_end(s, n, count, words::row(s, n, count - 1), is_before, next)
+    check_end(s, node, count, last_row)
 }
 
-// A node that should have this height, under an entry of this row.
-pub fn tell_node(s: &[u64], n: u64, height: u64, row: u64, is_before: bool, next: u64) -> bool {
+pub fn check_node(s: &[u64], node: Node) -> Result<(), Fault> {
+    let n = node.number;
     let is = words::part(s, n, 0);
-    if is != height {
-        return tell(HEIGHT, is, height);
+    if is != node.height {
+        return Err(Fault::Height {
+            is,
+            wanted: node.height,
+        });
     }
     let count = words::part(s, n, 1);
     if count != words::entries(s, n) || count == 0 {
-        return tell(COUNT, count, words::word(s, 0));
+        return Err(Fault::Count {
+            is: count,
+            capacity: words::word(s, 0),
+        });
     }
     let start = words::part(s, n, 2);
-    if start != row {
-        return tell(START, start, row);
+    if start != node.row {
+        return Err(Fault::Start {
+            is: Row(start),
+            wanted: Row(node.row),
+        });
     }
     let first = words::row(s, n, 0);
-    if first != row {
-        return tell(FIRST_ROW, first, row);
+    if first != node.row {
+        return Err(Fault::FirstRow {
+            is: Row(first),
+            wanted: Row(node.row),
+        });
     }
-    tell_entries(s, n, is_before, next)
+    check_entries(s, node, count)
 }
 
 // A root that is an empty leaf has its own rule.
-pub fn tell_empty_root(s: &[u64], n: u64) -> bool {
-    if n != words::word(s, 2) {
-        return false;
-    }
-    if words::part(s, n, 0) != 0 {
-        return false;
-    }
-    if words::part(s, n, 1) != 0 {
-        return false;
+pub fn check_empty_root(s: &[u64], n: u64) -> Result<(), Fault> {
+    if n != words::word(s, 2) || words::part(s, n, 0) != 0 || words::part(s, n, 1) != 0 {
+        return Ok(());
     }
     let start = words::part(s, n, 2);
     if RowPageIndexNodeHeader::ROW_LIMIT < start {
-        return tell(HIGH_START, start, RowPageIndexNodeHeader::ROW_LIMIT);
+        return Err(Fault::HighStart { is: Row(start) });
     }
-    tell_branch_end(words::part(s, n, 3), false, 0)
+    check_branch_end(words::part(s, n, 3), None)
 }

@@ -1,96 +1,118 @@
 // What is wrong with a store whose header, chain or counts the full check refuses.
 
-use crate::{chain, words};
+use crate::chain::Chain;
+use crate::words;
+use model::node::RowPageIndexNodeHeader;
 use node_read::layout::Layout;
-use store_print;
-
-// The texts by their places; those of words 2, 3 and 4 begin with that of the root.
-const NO_HEADER: u64 = 0;
-
-const CAPACITY: u64 = 1;
-
-const NODES: u64 = 2;
-
-const LENGTH: u64 = 3;
-
-const ROOT: u64 = 4;
-
-const SHORT_CHAIN: u64 = 7;
-
-const LONG_CHAIN: u64 = 8;
-
-const NOT_FREE: u64 = 9;
-
-const SUM: u64 = 10;
+use std::fmt;
 
 // What is, and what is wanted.
-fn tell(text: u64, is: u64, wanted: u64) {
-    store_print::tell(
-        b"wrong: % words are lent, a header has 8\n|wrong: a capacity of 2 to 4,094 is wanted, not %\n|wrong: 1 to 65,535 nodes are wanted, not %\n|wrong: % words are lent, such a store has %\n|wrong: the root's number is %, wanted at most %\n|wrong: the first free number is %, wanted at most %\n|wrong: the free count is %, wanted at most %\n|wrong: the chain has % nodes, the free count is %\n|wrong: after the last free node stands %, wanted %\n|wrong: node % is in the chain and is not free\n|wrong: tree and free nodes do not add up to all nodes\n",
-        text,
-        is,
-        wanted,
-    );
+#[derive(Clone, Copy, Debug, PartialEq, Eq)]
+pub enum HeaderFault {
+    NoHeader { lent: u64 },
+    Capacity { is: u64 },
+    Nodes { is: u64 },
+    Length { lent: u64, wanted: u64 },
+    Root { is: u64, nodes: u64 },
+    FirstFree { is: u64, nodes: u64 },
+    FreeCount { is: u64, nodes: u64 },
+    ShortChain { count: u64, free_count: u64 },
+    LongChain { after: u64, nodes: u64 },
+    NotFree { node: u64 },
+    Sum,
+}
+
+impl fmt::Display for HeaderFault {
+    fn fmt<W: fmt::Write>(&self, f: &mut fmt::Formatter<W>) -> fmt::Result {
+        match *self {
+            HeaderFault::NoHeader { lent } => write!(f, "{lent} words are lent, a header has 8"),
+            HeaderFault::Capacity { is } => write!(
+                f,
+                "a capacity of 2 to 4,094 is wanted, not {is}"
+            ),
+            HeaderFault::Nodes { is } => write!(f, "1 to 65,535 nodes are wanted, not {is}"),
+            HeaderFault::Length { lent, wanted } => {
+                write!(f, "{lent} words are lent, such a store has {wanted}")
+            }
+            HeaderFault::Root { is, nodes } => {
+                write!(f, "the root's number is {is}, wanted at most {nodes}")
+            }
+            HeaderFault::FirstFree { is, nodes } => {
+                write!(f, "the first free number is {is}, wanted at most {nodes}")
+            }
+            HeaderFault::FreeCount { is, nodes } => {
+                write!(f, "the free count is {is}, wanted at most {nodes}")
+            }
+            HeaderFault::ShortChain { count, free_count } => {
+                write!(
+                    f,
+                    "the chain has {count} nodes, the free count is {free_count}"
+                )
+            }
+            HeaderFault::LongChain { after, nodes } => {
+                write!(f, "after the last free node stands {after}, wanted {nodes}")
+            }
+            HeaderFault::NotFree { node } => write!(
+                f,
+                "node {node} is in the chain and is not free"
+            ),
+            HeaderFault::Sum => write!(f, "tree and free nodes do not add up to all nodes"),
+        }
+    }
 }
 
 // A chain that does not end with P after the free count's nodes; or a tree and a chain that do not hold all nodes.
-fn tell_chain(s: &[u64]) {
-    let pool = words::word(s, 1);
-    let free = words::word(s, 4);
-    let c = chain::follow(s, chain::FREE);
-    if free <= c.count {
-        if c.next == pool {
-            return tell(SUM, 0, 0);
+fn chain_fault(s: &[u64], nodes: u64, free_count: u64) -> HeaderFault {
+    let mut chain = Chain::new(s);
+    for node in chain.by_ref() {
+        if words::part(s, node, 0) != RowPageIndexNodeHeader::FREE_MARK {
+            return HeaderFault::NotFree { node };
         }
-        return tell(LONG_CHAIN, c.next, pool);
     }
-    if pool <= c.next {
-        return tell(SHORT_CHAIN, c.count, free);
+    let Chain { count, after, .. } = chain;
+    if count < free_count {
+        return HeaderFault::ShortChain { count, free_count };
     }
-    tell(NOT_FREE, c.next, 0);
+    if after != nodes {
+        return HeaderFault::LongChain { after, nodes };
+    }
+    HeaderFault::Sum
 }
 
-// Words 2 to 4, and then the chain.
-fn tell_links(s: &[u64], pool: u64) {
-    let mut i: usize = 2;
-    while i < 5 {
-        let x = words::word(s, i);
-        if pool < x {
-            return tell(ROOT + i as u64 - 2, x, pool);
-        }
-        i += 1;
-    }
-    tell_chain(s);
-}
-
-// Capacity, nodes and length of words that make no store.
-fn tell_size(s: &[u64], l: Layout) {
-    if l.capacity < Layout::MIN_CAPACITY {
-        return tell(CAPACITY, l.capacity, 0);
-    }
-    if Layout::MAX_CAPACITY < l.capacity {
-        return tell(CAPACITY, l.capacity, 0);
-    }
-    if l.pool < Layout::MIN_POOL {
-        return tell(NODES, l.pool, 0);
-    }
-    if Layout::MAX_POOL < l.pool {
-        return tell(NODES, l.pool, 0);
-    }
-    tell(LENGTH, s.len() as u64, l.store_length());
-}
-
-pub fn tell_wrong(s: &[u64]) {
-    let pool = words::word(s, 1);
-    let l = Layout {
-        capacity: words::word(s, 0),
-        pool,
+// Capacity, nodes and length; words 2 to 4; and then the chain.
+pub fn find_fault(s: &[u64]) -> HeaderFault {
+    let lent = s.len() as u64;
+    let [capacity, nodes, root, first_free, free_count, _, _, _, ..] = *s else {
+        return HeaderFault::NoHeader { lent };
     };
-    if s.len() < 8 {
-        return tell(NO_HEADER, s.len() as u64, 0);
+    if capacity < Layout::MIN_CAPACITY || Layout::MAX_CAPACITY < capacity {
+        return HeaderFault::Capacity { is: capacity };
     }
-    if l.fits(s) {
-        return tell_links(s, pool);
+    if nodes < Layout::MIN_POOL || Layout::MAX_POOL < nodes {
+        return HeaderFault::Nodes { is: nodes };
     }
-    tell_size(s, l);
+    let layout = Layout {
+        capacity,
+        pool: nodes,
+    };
+    let wanted = layout.store_length();
+    if lent != wanted {
+        return HeaderFault::Length { lent, wanted };
+    }
+    if nodes < root {
+        return HeaderFault::Root { is: root, nodes };
+    }
+    if nodes < first_free {
+        return HeaderFault::FirstFree {
+            is: first_free,
+            nodes,
+        };
+    }
+    if nodes < free_count {
+        return HeaderFault::FreeCount {
+            is: free_count,
+            nodes,
+        };
+    }
+    chain_fault(s, nodes, free_count)
 }

@@ -5,38 +5,26 @@ ghost use Rattle.std.specs.Prelude.{◌≤◌};
 use model::id::NodeNo;
 use node_read::layout::Layout;
 
-// The place of no word.
-const NOWHERE: usize = usize::MAX;
-
 // Word i of the store; 0 where it has none.
 pub fn word(s: &[u64], i: usize) -> u64 {
-    if i < s.len() {
-        return s[i];
-    }
-    0
+    s.get(i).copied().unwrap_or(0)
 }
 
 // Where word j of node n stands, by the store's first word, C.
-fn place_of(s: &[u64], n: u64, j: u64) -> usize {
+fn place_of(s: &[u64], n: u64, j: u64) -> Option<usize> {
     let l = Layout {
         capacity: word(s, 0),
         pool: Layout::MAX_POOL,
     };
-    if Layout::MAX_CAPACITY < l.capacity {
-        return NOWHERE;
+    if Layout::MAX_CAPACITY < l.capacity || l.pool < n || l.node_size() <= j {
+        return None;
     }
-    if l.pool < n {
-        return NOWHERE;
-    }
-    if l.node_size() <= j {
-        return NOWHERE;
-    }
-    l.place(NodeNo(n), j)
+    Some(l.place(NodeNo(n), j))
 }
 
 // Word j of node n.
 pub fn part(s: &[u64], n: u64, j: u64) -> u64 {
-    word(s, place_of(s, n, j))
+    place_of(s, n, j).map_or(0, |i| word(s, i))
 }
 
 // How many entries of a node can be read: its count, at most C.
@@ -47,11 +35,7 @@ pub fn entries(s: &[u64], n: u64) -> u64
     if Layout::MAX_CAPACITY < capacity {
         return 0;
     }
-    let count = part(s, n, 1);
-    if capacity < count {
-        return capacity;
-    }
-    count
+    part(s, n, 1).min(capacity)
 }
 
 // Row i of a node, and its page or child number.
@@ -69,33 +53,16 @@ pub fn child(s: &[u64], n: u64, i: u64) -> u64 {
     part(s, n, 5 + 2 * i)
 }
 
-// Words from place i on become these. Whether all have a place; else none changes.
-pub fn load(s: &mut [u64], i: usize, words: &[u64]) -> bool {
-    if s.len() < words.len() {
-        return false;
-    }
-    if s.len() - words.len() < i {
-        return false;
-    }
-    let mut k: usize = 0;
-    while k < words.len() {
-        s[i + k] = words[k];
-        k += 1;
-    }
-    true
+// Words from place i on become these. None where one of them has no place; then none changes.
+pub fn load(s: &mut [u64], i: usize, words: &[u64]) -> Option<()> {
+    s.get_mut(i..)?
+        .get_mut(..words.len())?
+        .copy_from_slice(words);
+    Some(())
 }
 
-// Word j of node n becomes x. Whether there is one.
-pub fn put(s: &mut [u64], n: u64, j: u64, x: u64) -> bool {
-    let i = place_of(s, n, j);
-    let words = [x];
-    load(s, i, &words)
-}
-
-pub fn fill(s: &mut [u64], x: u64) {
-    let mut i: usize = 0;
-    while i < s.len() {
-        s[i] = x;
-        i += 1;
-    }
+// Word j of node n becomes x. None where there is no such word.
+pub fn put(s: &mut [u64], n: u64, j: u64, x: u64) -> Option<()> {
+    let i = place_of(s, n, j)?;
+    load(s, i, &[x])
 }

@@ -1,101 +1,58 @@
-// What the store program writes. Each part of a line is written by itself, so nothing is held back when the program waits for
-// input.
+// What the store program writes: numbers, rows, and the lines of answers.
 
 #![tactic(auto)]
 
-pub mod wrong;
-
-use answer_numbers;
 use answer_numbers::Numbers;
-use model::answer::{Checked, Refusal};
+use model::answer::{Refusal, WellFormed};
 use model::node::RowPageIndexNodeHeader;
+use std::{fmt, io};
 
-pub const STDOUT_FILENO: i32 = 1;
+// A row; the largest number is no row.
+#[derive(Clone, Copy, Debug, PartialEq, Eq)]
+pub struct Row(pub u64);
 
-pub const STDERR_FILENO: i32 = 2;
-
-// A byte of a text: a `%` stands for the number, a `&` for the number as a row.
-fn put_part(out: &mut [u8], at: usize, x: u8, n: u64) -> usize {
-    if x == b'%' {
-        return script_text::put_decimal(out, at, n);
-    }
-    if x != b'&' {
-        return script_text::put_byte(out, at, x);
-    }
-    if n == RowPageIndexNodeHeader::NONE {
-        return script_text::put_bytes(out, at, b"NONE");
-    }
-    script_text::put_decimal(out, at, n)
-}
-
-// Text k of those between bars. The first mark in it is a, the others are b.
-fn put_message(out: &mut [u8], texts: &[u8], k: u64, a: u64, b: u64) -> usize {
-    let mut place: usize = 0;
-    let mut left = k;
-    let mut n = a;
-    let mut i: usize = 0;
-    while i < texts.len() {
-        let x = texts[i];
-        i += 1;
-        if x == b'|' {
-            if left == 0 {
-                return place;
-            }
-            left -= 1;
-            continue;
+impl fmt::Display for Row {
+    fn fmt<W: fmt::Write>(&self, f: &mut fmt::Formatter<W>) -> fmt::Result {
+        if self.0 == RowPageIndexNodeHeader::NONE {
+            return f.write_str("NONE");
         }
-        if 0 < left {
-            continue;
-        }
-        place = put_part(out, place, x, n);
-        if x == b'%' || x == b'&' {
-            n = b;
-        }
-    }
-    place
-}
-
-// The first bytes that were put.
-fn write(fd: i32, out: &[u8], len: usize) {
-    if len <= out.len() {
-        io::write_all(fd, &out[0..len]);
+        write!(f, "{}", self.0)
     }
 }
 
-// Writes text k of those between bars.
-pub fn say(fd: i32, texts: &[u8], k: u64, a: u64, b: u64) {
-    let mut out = [0u8; 1024];
-    let len = put_message(&mut out, texts, k, a, b);
-    write(fd, &out, len);
-}
+// Numbers, each after a space.
+#[derive(Clone, Copy, Debug)]
+pub struct List<'a>(pub &'a [u64]);
 
-// Writes text k to standard output.
-pub fn tell(texts: &[u8], k: u64, a: u64, b: u64) {
-    say(STDOUT_FILENO, texts, k, a, b);
+impl fmt::Display for List<'_> {
+    fn fmt<W: fmt::Write>(&self, f: &mut fmt::Formatter<W>) -> fmt::Result {
+        for number in self.0 {
+            write!(f, " {number}")?;
+        }
+        Ok(())
+    }
 }
 
 // The line of an answer, as in a script.
-pub fn tell_answer(done: &[u8], none: &[u8], answer: Numbers) {
+pub fn print_answer(
+    rt: &impl Print,
+    given: &[u8],
+    none: &[u8],
+    answer: impl Into<Numbers>,
+) -> io::Result<()> {
     let mut out = [0u8; 256];
-    let len = answer_line::put_answer(&mut out, 0, done, none, answer);
-    write(STDOUT_FILENO, &out, len);
+    let len = answer_line::put_answer(&mut out, 0, given, none, answer.into());
+    match out.get(..len) {
+        Some(line) => rt.write_all(line),
+        None => Ok(()),
+    }
 }
 
-pub fn tell_refusal(r: Refusal) {
-    tell_answer(b"no", b"no", answer_numbers::refusal_numbers(r));
+pub fn print_refusal(rt: &impl Print, refusal: Refusal) -> io::Result<()> {
+    print_answer(rt, b"no", b"no", refusal)
 }
 
 // The full check's line.
-pub fn tell_checked(a: Checked) {
-    tell_answer(b"check", b"check", answer_reads::checked_numbers(a));
-}
-
-// The rest of a line: these numbers.
-pub fn tell_numbers(numbers: &[u64]) {
-    let mut i: usize = 0;
-    while i < numbers.len() {
-        tell(b" %", 0, numbers[i], 0);
-        i += 1;
-    }
-    tell(b"\n", 0, 0, 0);
+pub fn print_checked(rt: &impl Print, answer: Result<WellFormed, Refusal>) -> io::Result<()> {
+    print_answer(rt, b"check", b"check", answer)
 }

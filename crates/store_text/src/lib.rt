@@ -1,4 +1,4 @@
-// Lines of text from standard input: their words and numbers.
+// Lines of text from a reader: their words and numbers.
 
 #![tactic(auto)]
 

@@ -1,155 +1,101 @@
-// Lines of a reader, as standard input, and their words.
+// Lines of a reader, and their words.
 
-ghost use Rattle.std.specs.Prelude.{◌≤◌};
+ghost use Rattle.std.specs.Prelude.{◌≡◌, ◌≢◌, ◌≤◌, length, take, All, IfSome, IfOk};
+ghost use Rattle.std.specs.Iterator.{at_most};
 
-use std::io::Read;
+use std::fmt;
+use std::io::BufRead;
 
-// What is left of the block that was read last.
-#[derive(Clone, Copy)]
-pub struct Input {
-    pub at: usize,
-    pub end: usize,
-}
+// A line that has more bytes than there is room for.
+#[derive(Clone, Copy, Debug, PartialEq, Eq)]
+pub struct TooLong;
 
-// A line: how many bytes it has, and whether the input ended before it. Bytes that do not fit are counted too.
-#[derive(Clone, Copy)]
-pub struct Line {
-    pub len: usize,
-    pub is_there: bool,
-    pub input: Input,
-}
-
-// Where a word begins and ends; both are the same where there is none.
-#[derive(Clone, Copy)]
-pub struct Word {
-    pub from: usize,
-    pub to: usize,
-}
-
-pub fn byte_at(b: &[u8], i: usize) -> u8 {
-    if i < b.len() {
-        return b[i];
-    }
-    b'\n'
-}
-
-// The input with bytes in its block, or at the end of the input, as a read that fails counts too.
-fn with_bytes(reader: &mut impl Read, block: &mut [u8], input: Input) -> Input {
-    if input.at < input.end {
-        return input;
-    }
-    Input {
-        at: 0,
-        end: reader.read(block).unwrap_or(0),
-    }
-}
-
-// What stands after the last line end is a line where it has bytes.
-fn last_line(len: usize) -> Line {
-    Line {
-        len,
-        is_there: 0 < len,
-        input: Input { at: 0, end: 0 },
-    }
-}
-
-// The next line, without its end.
-pub fn read_line(reader: &mut impl Read, block: &mut [u8], input: Input, b: &mut [u8]) -> Line {
-    let mut at = input.at;
-    let mut end = input.end;
+// The next line, without its end. None at the end of the input, and a read that fails is one too; what stands after the last line
+// end is a line where it has bytes.
+pub fn read_line<'a, R: BufRead>(
+    reader: &mut R,
+    buffer: &'a mut [u8],
+) -> Option<Result<&'a [u8], TooLong>>
+    ensures { IfSome result (λ read. IfOk read (λ line. length line.now ≤ length buffer.old)) }
+{
     let mut len: usize = 0;
-    while len < usize::MAX {
-        let more = with_bytes(reader, block, Input { at, end });
-        at = more.at;
-        end = more.end;
-        if end <= at {
-            return last_line(len);
+    for _ in 0..u64::MAX {
+        let block = reader.fill_buf().unwrap_or(&[]);
+        if block.is_empty() {
+            break;
         }
-        let byte = byte_at(block, at);
-        at += 1;
-        if byte == b'\n' {
-            return Line {
-                len,
-                is_there: true,
-                input: Input { at, end },
-            };
+        let end = block.iter().position(|&byte| byte == b'\n');
+        let part = &block[..end.unwrap_or(block.len())];
+        put(buffer, len, part);
+        len = len.saturating_add(part.len());
+        let used = part.len();
+        if end.is_some() {
+            reader.consume(used + 1);
+            return Some(buffer.get(..len).ok_or(TooLong));
         }
-        script_text::put_byte(b, len, byte);
-        len += 1;
+        reader.consume(used);
     }
-    last_line(len)
+    if len == 0 {
+        return None;
+    }
+    Some(buffer.get(..len).ok_or(TooLong))
 }
 
-fn is_space(x: u8) -> bool {
-    x == b' ' || x == b'\t' || x == b'\r'
+// Bytes from a place on become these, where there is room for all of them.
+fn put(buffer: &mut [u8], at: usize, bytes: &[u8]) {
+    if let Some(rest) = buffer.get_mut(at..) {
+        if let Some(place) = rest.get_mut(..bytes.len()) {
+            place.copy_from_slice(bytes);
+        }
+    }
 }
 
-// The first place from at on that is a space, or is none; len where there is none such.
-fn find_space(b: &[u8], len: usize, at: usize, space: bool) -> usize
-    ensures { at ≤ result }
+// What stands before a comment.
+pub fn before_comment(line: &[u8]) -> &[u8]
+    ensures start { result.now ≡ take (length result.now) line.now }
+    ensures no_mark { All (λ byte. byte ≢ 35) result.now }
 {
-    let mut i = at;
-    while i < len {
-        if is_space(byte_at(b, i)) == space {
-            return i;
-        }
-        i += 1;
+    match line.iter().position(|&byte| byte == b'#') {
+        Some(end) => &line[..end],
+        None => line,
     }
-    i
 }
 
-// The first word from a place on.
-pub fn next_word(b: &[u8], len: usize, at: usize) -> Word
-    ensures { (at ≤ result.from) × (result.from ≤ result.to) }
-{
-    let from = find_space(b, len, at, false);
-    let to = find_space(b, len, from, true);
-    Word { from, to }
+fn is_space(byte: &u8) -> bool {
+    matches!(*byte, b' ' | b'\t' | b'\r')
 }
 
-// The place after byte x of a word that goes on up to another place; no place where the word has another byte.
-fn after(b: &[u8], at: usize, to: usize, x: u8) -> usize {
-    if to <= at {
-        return usize::MAX;
+// The words of a line, which spaces divide.
+#[derive(Clone, Copy, Debug)]
+pub struct Words<'a>(pub &'a [u8]);
+
+impl<'a> Iterator for Words<'a> {
+    type Item = &'a [u8];
+
+    ghost remaining = { λ s. at_most (length s.0.now) };
+
+    fn next(&mut self) -> Option<&'a [u8]> {
+        let from = self.0.iter().position(|byte| !is_space(byte))?;
+        let rest = &self.0[from..];
+        let to = rest.iter().position(is_space).unwrap_or(rest.len());
+        self.0 = rest.get(to + 1..).unwrap_or(&[]);
+        Some(&rest[..to])
     }
-    if byte_at(b, at) != x {
-        return usize::MAX;
-    }
-    at + 1
 }
 
-// Which of some names a word is, from 0 on; 64 for none. They stand between bars.
-pub fn find_name(b: &[u8], w: Word, names: &[u8]) -> u64 {
-    let mut at = w.from;
-    let mut k: u64 = 0;
-    let mut i: usize = 0;
-    while i < names.len() {
-        let x = names[i];
-        i += 1;
-        if x != b'|' {
-            at = after(b, at, w.to, x);
-            continue;
-        }
-        if at == w.to {
-            return k;
-        }
-        at = w.from;
-        k += 1;
-    }
-    if at == w.to {
-        return k;
-    }
-    64
-}
+// A word in a message: its first 40 bytes, and two dots where it is longer. A byte that does not print is a `?`.
+#[derive(Clone, Copy, Debug)]
+pub struct Shown<'a>(pub &'a [u8]);
 
-// The bytes of a line before its comment.
-pub fn before_comment(b: &[u8], len: usize) -> usize {
-    let mut i: usize = 0;
-    while i < len {
-        if byte_at(b, i) == b'#' {
-            return i;
+impl fmt::Display for Shown<'_> {
+    fn fmt<W: fmt::Write>(&self, f: &mut fmt::Formatter<W>) -> fmt::Result {
+        for &byte in self.0.iter().take(40) {
+            let shown = if byte.is_ascii_graphic() { byte } else { b'?' };
+            f.write_char(char::from(shown))?;
         }
-        i += 1;
+        if 40 < self.0.len() {
+            f.write_str("..")?;
+        }
+        Ok(())
     }
-    len
 }

@@ -1,89 +1,41 @@
 // The numbers of a line.
 
-use crate::line;
-use crate::line::Word;
+ghost use Rattle.std.specs.Prelude.{◌≤◌, length, IfOk};
 
-// A word as a number of 64 bits.
-#[derive(Clone, Copy)]
-enum Number {
-    Value(u64),
-    TooLarge,
-    NoNumber,
+use crate::line::Words;
+use std::str;
+
+// A word that is no number below 2^64.
+#[derive(Clone, Copy, Debug, PartialEq, Eq)]
+pub enum NumberError<'a> {
+    NoNumber(&'a [u8]),
+    TooLarge(&'a [u8]),
 }
 
-// How many numbers a line has; or its first word that is none below 2^64.
-#[derive(Clone, Copy)]
-pub enum Numbers {
-    All(usize),
-    TooLarge(Word),
-    NoNumber(Word),
+// The number that a word of digits gives. A word with another byte is no number, however large.
+fn read_number(word: &[u8]) -> Result<u64, NumberError<'_>> {
+    if !word.iter().all(u8::is_ascii_digit) {
+        return Err(NumberError::NoNumber(word));
+    }
+    let digits = str::from_utf8(word).map_err(|_| NumberError::NoNumber(word))?;
+    digits.parse().map_err(|_| NumberError::TooLarge(word))
 }
 
-// The value of a digit; 10 for another byte.
-pub fn digit(x: u8) -> u64 {
-    if x < b'0' {
-        return 10;
-    }
-    if b'9' < x {
-        return 10;
-    }
-    (x - b'0') as u64
-}
-
-// Leading zeros are allowed. A word with another byte than digits is no number, however large.
-fn read_number(b: &[u8], w: Word) -> Number {
-    let mut value: u64 = 0;
-    let mut is_large = false;
-    let mut i = w.from;
-    let to = w.to;
-    while i < to {
-        let d = digit(line::byte_at(b, i));
-        if 9 < d {
-            return Number::NoNumber;
-        }
-        i += 1;
-        if (u64::MAX - d) / 10 < value {
-            is_large = true;
-            continue;
-        }
-        value = 10 * value + d;
-    }
-    if is_large {
-        return Number::TooLarge;
-    }
-    Number::Value(value)
-}
-
-fn put_word(words: &mut [u64], i: usize, x: u64) {
-    if i < words.len() {
-        words[i] = x;
-    }
-}
-
-// The words from a place on, as numbers. Those that do not fit are counted too.
-pub fn read_numbers(b: &[u8], len: usize, start: usize, words: &mut [u64]) -> Numbers {
-    let mut at = start;
+// The words as numbers: as many as there is room for.
+pub fn read_numbers<'a, 'b>(
+    words: Words<'a>,
+    buffer: &'b mut [u64],
+) -> Result<&'b [u64], NumberError<'a>>
+    ensures { IfOk result (λ numbers. length numbers.now ≤ length buffer.old) }
+{
     let mut count: usize = 0;
-    while at < len {
-        let w = line::next_word(b, len, at);
-        if w.to == w.from {
-            return Numbers::All(count);
-        }
-        match read_number(b, w) {
-            Number::Value(x) => {
-                put_word(words, count, x);
-            }
-            Number::TooLarge => {
-                return Numbers::TooLarge(w);
-            }
-            Number::NoNumber => {
-                return Numbers::NoNumber(w);
-            }
-        }
-        at = w.to;
-        if count < 65536 {
-            count += 1;
-        }
+    for word in words {
+        let number = read_number(word)?;
+        let Some(place) = buffer.get_mut(count) else {
+            break;
+        };
+        *place = number;
+        count += 1;
     }
-    Numbers::All(count)
+    Ok(&buffer[..count])
 }

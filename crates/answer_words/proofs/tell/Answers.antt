@@ -1,7 +1,10 @@
-use mathlib.Core.Path.{refl}
-use Rattle.model.specs.Words.{fill}
+use mathlib.Core.Path.{◌≡◌, refl}
+use lib.ListN.{length}
+use Rattle.std.proofs.Common.{rules}
+use Rattle.answer_words.proofs.Filling.{five, fill_fitting}
 use Rattle.answer_words.proofs.tell.Goals as goal
 
 pub returns : goal.returns
-unfolding fill
-returns c = record { array = rw (c.put-7.ensures, c.put-6.ensures, c.put-5.ensures, c.put-4.ensures, c.put-3.ensures, c.put-2.ensures, c.put.ensures) refl; number = refl }
+returns c =
+    let h : length c.args.n.values ≡ 5 = search rules in
+    record { array = rw (c.copy_from_slice.ensures.after, five c.args.n.values h) (fill_fitting _ _ _ c.min-len.ensures); number = refl }

@@ -1,54 +1,52 @@
-use Prim.Native.Nat.{ℕ, ◌<◌, ◌≤◌}
-use mathlib.Core.Path.{sym, ap, ◌∙◌, subst}
-use native.Mathlib.Omega.{arith}
-use Rattle.model.specs.Words.{Header}
-use Rattle.model.specs.Refusals.{refused}
-use Rattle.node_read.specs.declared.header.StoreHeader.{StoreHeader}
-use Rattle.node_read.proofs.Opened.{is_open}
+use mathlib.Core.Path.{◌∙◌, sym, ap, subst}
+use Rattle.std.specs.Prelude.{Option, Some, Result, Ok}
+use Rattle.std.proofs.lemmas.Result.{err_from_is_err_and}
+use Rattle.model.specs.declared.answer.Refusal.{Refusal}
+use Rattle.node_read.proofs.Opened.{is_open, opens-fits}
+use Rattle.tree_path.specs.Reached.{reached_of}
+use Rattle.next_step.specs.declared.LeafStep.{LeafStep}
 use Rattle.next_step.specs.Steps.{Steps}
-use Rattle.next_step.proofs.Stepping.{still, stay-steps, next-refused, next-short, next-done, tree-steps}
+use Rattle.next_step.proofs.Stepping.{steps-refused, steps-short, steps-done, steps-unsound, steps-given, leaf_in}
 use Rattle.next_step.proofs.step.Goals as goal
+
+pub returns-in_err-h : goal.returns-in_err-h
+returns-in_err-h c =
+    let a = c.args in
+    let p = err_from_is_err_and c.from_residual.result c.from_residual.ensures.1 in
+    rw (p.1, p.2) (steps-refused a.s.now a.cursor a.len _ (sym c.«open».ensures ∙ c.in_err-h.was))
 
 pub returns-then-len-capacity : goal.returns-then-len-capacity
 returns-then-len-capacity c =
     let a = c.args in
-    let w = a.s.now in
-    let h = c.in-Open.h in
-    let o = is_open w h (sym c.«open».ensures ∙ c.in-Open.is) in
-    let e = ap (λ (x : StoreHeader). x.layout.capacity) o.header_is in
-    let short : a.len < h.layout.capacity = c.if-len-capacity.true in
-    subst (Steps w a.cursor a.len) (sym c.stay-then-len-capacity.ensures) (stay-steps w a.cursor a.len _ (λ l z. next-short w a.cursor h o l (omega (arith, z, e)) ∙ ap (λ (x : ℕ). still a.cursor l (refused 13 x)) (sym e)))
+    steps-short a.s.now a.cursor a.len _ (is_open a.s.now _ (sym c.«open».ensures ∙ c.in_ok-h.was)) c.if-len-capacity.true
 
 pub returns-then-cursor : goal.returns-then-cursor
 returns-then-cursor c =
     let a = c.args in
-    let w = a.s.now in
-    let h = c.in-Open.h in
-    let o = is_open w h (sym c.«open».ensures ∙ c.in-Open.is) in
-    let e = ap (λ (x : StoreHeader). x.layout.capacity) o.header_is in
-    let room : h.layout.capacity ≤ a.len = c.if-len-capacity.false in
-    subst (Steps w a.cursor a.len) (sym c.stay-then-cursor.ensures) (stay-steps w a.cursor a.len _ (λ l z. next-done w a.cursor h o l (omega (arith, z, e)) c.if-cursor.true))
+    steps-done a.s.now a.cursor a.len _ (is_open a.s.now _ (sym c.«open».ensures ∙ c.in_ok-h.was)) c.if-len-capacity.false c.if-cursor.true
 
-pub step_in_tree-requires : goal.step_in_tree-requires
-step_in_tree-requires c =
+pub find_leaf-requires : goal.find_leaf-requires
+find_leaf-requires c =
     let a = c.args in
-    let w = a.s.now in
-    let o = is_open w _ (sym c.«open».ensures ∙ c.in-Open.is) in
-    let both = subst (λ (h : StoreHeader). Header h.layout.capacity h.layout.pool w × (h.root.0 < h.layout.pool)) (sym o.header_is) (o.fits, o.inside) in
-    record { fits = both.0; root_lt_pool = both.1 }
+    let f = opens-fits a.s.now _ (is_open a.s.now _ (sym c.«open».ensures ∙ c.in_ok-h.was)) in
+    record { fits = f.0; root_lt_pool = f.1 }
 
-pub returns-in-Refused : goal.returns-in-Refused
-returns-in-Refused c =
+pub returns-in_err-reached : goal.returns-in_err-reached
+returns-in_err-reached c =
     let a = c.args in
-    let w = a.s.now in
-    subst (Steps w a.cursor a.len) (sym c.stay.ensures) (stay-steps w a.cursor a.len _ (λ l z. next-refused w a.cursor _ (sym c.«open».ensures ∙ c.in-Refused.is) l))
+    let o = is_open a.s.now _ (sym c.«open».ensures ∙ c.in_ok-h.was) in
+    let p = err_from_is_err_and c.from_residual-in_err-reached.result c.from_residual-in_err-reached.ensures.1 in
+    rw (p.1, p.2) (steps-unsound a.s.now a.cursor a.len _ o c.if-len-capacity.false c.if-cursor.false _ (ap reached_of (sym c.in_err-reached.was) ∙ c.find_leaf.ensures))
 
-pub returns-else-cursor : goal.returns-else-cursor
-returns-else-cursor c =
+pub give-requires : goal.give-requires
+give-requires c =
     let a = c.args in
-    let w = a.s.now in
-    let h = c.in-Open.h in
-    let o = is_open w h (sym c.«open».ensures ∙ c.in-Open.is) in
-    let e = ap (λ (x : StoreHeader). x.layout.capacity) o.header_is in
-    let room : h.layout.capacity ≤ a.len = c.if-len-capacity.false in
-    tree-steps w a.cursor h o a.len _ (omega (arith, e)) c.if-cursor.false (c.step_in_tree.ensures.is, (c.step_in_tree.ensures.lies, c.step_in_tree.ensures.few))
+    let o = is_open a.s.now _ (sym c.«open».ensures ∙ c.in_ok-h.was) in
+    record { fits = (opens-fits a.s.now _ o).0; n_lt_pool = leaf_in a.s.now a.cursor a.len _ o c.if-len-capacity.false c.if-cursor.false _ (ap reached_of (sym c.in_ok-reached.was) ∙ c.find_leaf.ensures) }
+
+pub returns : goal.returns
+returns c =
+    let a = c.args in
+    let o = is_open a.s.now _ (sym c.«open».ensures ∙ c.in_ok-h.was) in
+    let s = steps-given a.s.now a.cursor a.len _ o c.if-len-capacity.false c.if-cursor.false _ (ap reached_of (sym c.in_ok-reached.was) ∙ c.find_leaf.ensures) in
+    subst (λ (g : LeafStep). Steps a.s.now a.cursor a.len (Ok (Some g))) (sym c.give.ensures) s

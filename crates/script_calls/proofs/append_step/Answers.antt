@@ -10,4 +10,4 @@ pub returns : goal.returns
 returns c =
     let x = c.args in
     let r = c.insert_row_page-a.ensures in
-    appends x.s.now x.out.now x.used _ _ _ _ _ _ _ (c.inserted_numbers-n.ensures.answer ∙ r.answer) r.words c.put_answer-place.ensures
+    appends x.s.now x.out.now x.used _ _ _ _ _ _ _ (c.from-n.ensures.answer ∙ r.answer) r.words c.put_answer-place.ensures

@@ -10,4 +10,4 @@ slice_bounds-try_find_row-end c = let s = c.args in sym (length-take-le s.used s
 pub returns : goal.returns
 returns c =
     let x = c.args in
-    finds x.s.now x.out.now x.used _ _ [] _ _ _ (c.location_numbers-n.ensures.answer ∙ c.try_find_row-a.ensures) c.put_answer-place.ensures
+    finds x.s.now x.out.now x.used _ _ [] _ _ _ (c.from-n.ensures.answer ∙ c.try_find_row-a.ensures) c.put_answer-place.ensures

@@ -10,4 +10,4 @@ pub returns : goal.returns
 returns c =
     let x = c.args in
     let r = c.destroy-a.ensures in
-    releases x.s.now x.out.now x.used _ _ _ _ _ _ (c.destroyed_numbers-n.ensures.answer ∙ r.answer) r.words c.put_answer-place.ensures
+    releases x.s.now x.out.now x.used _ _ _ _ _ _ (c.from-n.ensures.answer ∙ r.answer) r.words c.put_answer-place.ensures

@@ -15,4 +15,4 @@ pub returns : goal.returns
 returns c =
     let x = c.args in
     let r = c.new-a.ensures in
-    creates x.s.now x.out.now x.used _ _ _ _ _ _ _ _ _ _ c.create_length-len.ensures (c.created_numbers-n.ensures.answer ∙ r.answer) r.words c.used_after.ensures c.put_answer-place.ensures
+    creates x.s.now x.out.now x.used _ _ _ _ _ _ _ _ _ _ c.create_length-len.ensures (c.from-n.ensures.answer ∙ r.answer) r.words c.used_after.ensures c.put_answer-place.ensures

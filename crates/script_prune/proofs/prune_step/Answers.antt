@@ -14,4 +14,4 @@ returns c =
     let x = c.args in
     let r = c.prune_checkpoint_prefix-a.ensures in
     let e = c.copy_ids-k.ensures.is in
-    prunes x.s.now x.out.now x.used _ _ _ _ _ _ _ _ (c.pruned_numbers-n.ensures.answer ∙ rw e at r.answer) (rw e at r.words) c.put_answer-place.ensures
+    prunes x.s.now x.out.now x.used _ _ _ _ _ _ _ _ (c.from-n.ensures.answer ∙ rw e at r.answer) (rw e at r.words) c.put_answer-place.ensures

@@ -4,9 +4,6 @@ use Rattle.model.specs.Reading.{descend, to_row}
 use Rattle.node_test.specs.Test.{limit_of}
 use Rattle.tree_path.proofs.path.find_below.Given as goal
 
-abbrev pub invariant-loop-h : goal.invariant-loop-h
-invariant-loop-h l = descend (to_row (shape_of l.l) l.s l.sought.0) (shape_of l.l) l.l.pool l.s l.initial.h l.initial.parent.0 l.initial.n.0 l.initial.r.0 (limit_of l.initial.next)
-    ≡ descend (to_row (shape_of l.l) l.s l.sought.0) (shape_of l.l) l.l.pool l.s l.h l.parent.0 l.n.0 l.r.0 (limit_of l.next)
-
-abbrev pub decreases-loop-h : goal.decreases-loop-h
-decreases-loop-h l = l.h
+abbrev pub invariant-loop-below : goal.invariant-loop-below
+invariant-loop-below l = descend (to_row (shape_of l.l) l.s l.sought.0) (shape_of l.l) l.l.pool l.s l.height l.initial.parent.0 l.initial.n.0 l.initial.r.0 (limit_of l.initial.next)
+    ≡ descend (to_row (shape_of l.l) l.s l.sought.0) (shape_of l.l) l.l.pool l.s l.below l.parent.0 l.n.0 l.r.0 (limit_of l.next)
