@@ -3,48 +3,25 @@ use Prim.Native.Nat.{ℕ, ◌+◌, ◌<◌, ◌≤◌}
 use mathlib.Core.Bool.{true, false, ◌&&◌, ◌||◌, false≢true}
 use mathlib.Core.Path.{◌≡◌, sym}
 use mathlib.Core.Logic.{◌≢◌}
-use native.Mathlib.Omega.{arith}
 use lib.Dec.{ltb, eqb}
-use borrow.Author.Tests.{lt-ltb, le-ltb, eq-eqb, ne_eqb, ltb-false}
+use borrow.Author.Tests.{lt-ltb, eq-eqb, ltb-false}
 use Rattle.model.specs.Words.{row_limit, max_height}
 use Rattle.model.specs.declared.answer.Refusal.{Refusal}
 use Rattle.model.specs.declared.answer.Refusal.TheVariants.{RowLimit, HeightLimit, NoRoom}
 use Rattle.model.proofs.Tests.{by_test}
-use Rattle.append_limits.specs.declared.Ruling.TheVariants.{Fine, Refused}
+use Rattle.std.specs.Prelude.{Result, Ok, Err}
 use Rattle.append_limits.specs.Limits.{limits_told}
 
-never : {A : Type 0} (r : Refusal) → Refused r ≡ Fine → A
-never r e = let z : ◌≡◌ {A = ℕ} 0 1 = cc in absurd (omega arith)
+never : {A : Type 0} (r : Refusal) → ◌≡◌ {A = Result Unit Refusal} (Err r) (Ok tt) → A
+never r e = absurd (cc)
 
 module _ (k s h m free : ℕ) where
-  pub no_rows : k ≡ 0 → limits_told k s h m free ≡ Refused RowLimit
-  unfolding limits_told
-  no_rows z = rw (eq-eqb k 0 z)
-
-  module _ (a : k ≡ 0 → ⊥) where
-    pub past-limit : row_limit < s + k → limits_told k s h m free ≡ Refused RowLimit
-    unfolding limits_told
-    past-limit b = rw (ne_eqb k 0 a, lt-ltb row_limit (s + k) b)
-
-    module _ (b : s + k ≤ row_limit) where
-      pub too_high : h < m → h ≡ max_height → limits_told k s h m free ≡ Refused HeightLimit
-      unfolding limits_told
-      too_high c d = rw (ne_eqb k 0 a, le-ltb row_limit (s + k) b, lt-ltb h m c, eq-eqb h max_height d)
-
-      pub too_few : (ltb h m && eqb h max_height) ≡ false → free < m → limits_told k s h m free ≡ Refused (NoRoom m)
-      unfolding limits_told
-      too_few c d = rw (ne_eqb k 0 a, le-ltb row_limit (s + k) b, c, lt-ltb free m d)
-
-      pub all-fine : (ltb h m && eqb h max_height) ≡ false → m ≤ free → limits_told k s h m free ≡ Fine
-      unfolding limits_told
-      all-fine c d = rw (ne_eqb k 0 a, le-ltb row_limit (s + k) b, c, le-ltb free m d)
-
   pub record Passes : Type 0 where
     pub most : s + k ≤ row_limit
     pub low : h < m → h ≢ max_height
     pub enough : m ≤ free
 
-  pub passes : limits_told k s h m free ≡ Fine → Passes
+  pub passes : limits_told k s h m free ≡ Ok tt → Passes
   unfolding limits_told
   passes e =
       by_test (eqb k 0 || ltb row_limit (s + k))
@@ -64,9 +41,3 @@ module _ (k s h m free : ℕ) where
 
       not-and : ltb h m ≡ true → eqb h max_height ≡ true → (ltb h m && eqb h max_height) ≡ false → ⊥
       not-and l z u = let y : true ≡ false = rw (l, z) at u in false≢true (sym y)
-
-pub not_highest : (h m : ℕ) → h < m → (h ≡ max_height → ⊥) → (ltb h m && eqb h max_height) ≡ false
-not_highest h m a b = rw (lt-ltb h m a, ne_eqb h max_height b)
-
-pub no_split : (h m : ℕ) → m ≤ h → (ltb h m && eqb h max_height) ≡ false
-no_split h m a = rw (le-ltb h m a)

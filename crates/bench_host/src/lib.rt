@@ -5,10 +5,12 @@
 
 ghost use Rattle.std.specs.Prelude.{◌≡◌};
 ghost use Rattle.model.specs.LeafWalk.{seek};
+ghost use Rattle.model.specs.Refusals.{next_leaf};
 ghost use Rattle.next_words.specs.Written.{next_words_of};
 ghost use Rattle.node_test.specs.Test.{limit_of};
 ghost use Rattle.bench_host.specs.Numbers.{end_number, limit_to, open_number, survey_of, test_of};
 
+use model::answer::{Leaf, Refusal};
 use model::cursor::RowPageIndexMemCursor;
 use model::id::{NodeNo, RowID};
 use next_words;
@@ -67,6 +69,18 @@ pub fn bench_survey(words: &[u64], ends: u64) -> u64
     tree_survey::survey_tree(h.layout, words, ends != 0, h.root).map_or(REFUSED, |k| k.nodes)
 }
 
+// The end of the leaf that a step gave.
+#[tactic(auto, using(crate::proofs::Refused::no_end))]
+fn end_of(answer: Result<Option<Leaf>, Refusal>) -> u64
+    ensures { result ≡ end_number (next_leaf answer) }
+{
+    match answer {
+        Ok(Some(leaf)) => leaf.end_row_id.0,
+        Ok(None) => REFUSED,
+        Err(_) => REFUSED,
+    }
+}
+
 // One step of a leaf walk from a row, the records as words: the leaf's end.
 pub fn bench_next(words: &[u64], row: u64, list: &mut [u64]) -> u64
     ensures number { result ≡ end_number (next_words_of words.now (seek row) list.old).answer }
@@ -77,9 +91,5 @@ pub fn bench_next(words: &[u64], row: u64, list: &mut [u64]) -> u64
         done: false,
     };
     let step = next_words::next_words(words, cursor, list);
-    match step.answer {
-        Ok(Some(leaf)) => leaf.end_row_id.0,
-        Ok(None) => REFUSED,
-        Err(_) => REFUSED,
-    }
+    end_of(step.answer)
 }

@@ -10,14 +10,14 @@ use Rattle.model.specs.Append.{append_to, insert_row_page}
 use Rattle.model.specs.declared.answer.Refusal.{Refusal}
 use Rattle.node_read.specs.Layout.{shape_of, Fits, store_header, opened}
 use Rattle.node_read.specs.declared.header.StoreHeader.{StoreHeader}
-use Rattle.node_read.specs.declared.header.Opened.TheVariants.{Open as Opens, Refused}
+use Rattle.std.specs.Prelude.{Ok, Err}
 use Rattle.node_read.proofs.Opened.{is_open, is-refused, goes_on, opens-fits}
 
 -- the right leaf of an open store
 abbrev pub right : List ℕ → StoreHeader → Reached
 right w h = root_leaf (to_right (shape_of h.layout) w) (shape_of h.layout) h.layout.pool w h.root.0
 
-module _ (w : List ℕ) (h : StoreHeader) (e : opened w ≡ Opens h) where
+module _ (w : List ℕ) (h : StoreHeader) (e : opened w ≡ Ok h) where
   is-header : h ≡ store_header w
   is-header = (is_open w h e).header_is
 
@@ -31,11 +31,11 @@ module _ (w : List ℕ) (k x : ℕ) where
   abbrev refuse : Answer → Outcome
   refuse a = record { answer = a; words = w }
 
-  pub insert_refused : (r : Refusal) → opened w ≡ Refused r → insert_row_page lent w k x ≡ record { answer = refusal r; words = w }
+  pub insert_refused : (r : Refusal) → opened w ≡ Err r → insert_row_page lent w k x ≡ record { answer = refusal r; words = w }
   unfolding insert_row_page
   insert_refused r e = is-refused w r e refuse _
 
-  module _ (h : StoreHeader) (e : opened w ≡ Opens h) where
+  module _ (h : StoreHeader) (e : opened w ≡ Ok h) where
     insert_open : insert_row_page lent w k x ≡ append_to (shape_of h.layout) h.layout.pool w h.root.0 k x (right w h)
     unfolding insert_row_page
     insert_open =

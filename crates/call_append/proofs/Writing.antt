@@ -1,65 +1,30 @@
--- An append after its path: the tests that are left, and the writes.
+-- An append after its tests: the writes, and the nodes wanted.
 use Prim.Native.Nat.{ℕ, zero, suc, ◌+◌, ◌-◌, ◌<◌, ◌≤◌}
 use mathlib.Core.List.{List, [], ◌∷◌, ◌++◌}
-use mathlib.Core.Bool.{true, false, ◌&&◌, ◌||◌}
-use mathlib.Core.Path.{◌≡◌, sym, ap, ◌∙◌, subst}
+use mathlib.Core.Bool.{true}
+use mathlib.Core.Path.{◌≡◌, refl, sym, ap, ◌∙◌, subst}
 use mathlib.Core.Logic.{◌≢◌}
 use native.Mathlib.Omega.{arith}
 use lib.ListN.{set}
 use lib.Seq.{set-get_or}
-use lib.Dec.{ltb, eqb}
 use borrow.Author.Tests.{le-leb}
-use Rattle.model.specs.Words.{Shape, word, put, added, height, count, free_head, free_count, row_limit, max_height}
-use Rattle.model.specs.Tree.{Limit}
-use Rattle.model.specs.Reading.{leaf}
-use Rattle.model.specs.Refusals.{result, damaged, Outcome, refusal}
-use Rattle.model.specs.Append.{Room, append_start, room, firsts, past, chain_sound, taken, hang, append_at, append_to}
+use Rattle.model.specs.Words.{Shape, word, put, added, height, count, free_head, free_count, max_height}
+use Rattle.model.specs.Refusals.{result}
+use Rattle.model.specs.Append.{Room, firsts, past, chain_sound, taken, hang, append_at}
 use Rattle.model.specs.declared.id.NodeNo.{NodeNo}
-use Rattle.model.specs.declared.answer.Refusal.{Refusal}
 use Rattle.model.proofs.Words.{put_word}
 use Rattle.model.proofs.Writes.{added-word}
-use Rattle.model.proofs.Tests.{and_l, and_r, by_test, holds, is_true}
+use Rattle.model.proofs.Tests.{and_l, and_r, holds, is_true}
 use Rattle.node_chain.specs.Chain.{listed}
 use Rattle.node_chain.proofs.Links.{link}
-use Rattle.append_limits.specs.declared.Ruling.{Ruling}
-use Rattle.append_limits.specs.declared.Ruling.TheVariants.{Fine, Refused}
-use Rattle.append_path.specs.Inside.{Inside, number_at}
-use Rattle.call_append.specs.Placed.{grown, placed}
-use Rattle.append_limits.specs.Limits.{limits_told}
-
--- a refusal leaves the words w
-abbrev ruled : List ℕ → Outcome → Ruling → Outcome
-ruled w o Fine = o
-ruled w o (Refused r) = record { answer = refusal r; words = w }
-
-module _ (C : Shape) (P : ℕ) (w : List ℕ) (n k x l : ℕ) (b : Limit) where
-  append-ruled : append_to C P w n k x (leaf l b) ≡ ruled w (placed C P w n (append_start C w l) (append_start C w l + k) x (room C w n)) (limits_told k (append_start C w l) (height C w n) (room C w n).needed (free_count w))
-  unfolding append_to limits_told placed
-  append-ruled =
-      by_test (eqb k 0 || ltb row_limit (append_start C w l + k))
-      (λ t. rw t)
-      (λ t. by_test (ltb (height C w n) (room C w n).needed && eqb (height C w n) max_height)
-      (λ u. rw (t, u))
-      (λ u. by_test (ltb (free_count w) (room C w n).needed) (λ v. rw (t, u, v)) (λ v. rw (t, u, v))))
-
-  -- by what the code has found
-  module _ (s h free : ℕ) (o : Room) (is-start : s ≡ append_start C w l) (is-height : h ≡ height C w n) (is_free : free ≡ free_count w) (is-room : o ≡ room C w n) where
-    append_by : append_to C P w n k x (leaf l b) ≡ ruled w (placed C P w n s (s + k) x o) (limits_told k s h o.needed free)
-    append_by = append-ruled ∙ rw (is-start, is-height, is_free, is-room)
-
-    pub append-refused : (r : Refusal) → limits_told k s h o.needed free ≡ Refused r → append_to C P w n k x (leaf l b) ≡ record { answer = refusal r; words = w }
-    append-refused r e = append_by ∙ rw e
-
-    pub append-fine : limits_told k s h o.needed free ≡ Fine → append_to C P w n k x (leaf l b) ≡ placed C P w n s (s + k) x o
-    append-fine e = append_by ∙ rw e
+use Rattle.std.proofs.lemmas.List.{drop_more}
+use lib.ListN.{length, take, drop}
+use Rattle.append_path.specs.Inside.{Inside, number_at, numbers}
+use Rattle.call_append.specs.Placed.{placed}
 
 -- The writes ---------------------------------------------------------------------------------------------
 
 module _ (C : Shape) (P : ℕ) (w : List ℕ) (n s e x : ℕ) (o : Room) where
-  pub placed-bad : chain_sound C P w (free_head w) [] o.needed ≡ false → placed C P w n s e x o ≡ record { answer = damaged; words = w }
-  unfolding placed
-  placed-bad t = rw t
-
   -- room in the right leaf: no node is taken, and the words of the chain stay
   kept : taken C w (hang C w o.node s e x []) 0 ≡ hang C w o.node s e x []
   unfolding taken past hang
@@ -74,12 +39,6 @@ module _ (C : Shape) (P : ℕ) (w : List ℕ) (n s e x : ℕ) (o : Room) where
   unfolding placed append_at chain_sound firsts
   placed-leaf z = rw (z, le-leb 0 (height C w n) (omega arith), kept)
 
-  pub placed-good : chain_sound C P w (free_head w) [] o.needed ≡ true → (l : List NodeNo) (a : ℕ) → listed l 0 o.needed ≡ firsts C w (free_head w) o.needed → a ≡ past C w (free_head w) o.needed
-      → placed C P w n s e x o
-      ≡ record { answer = result (s ∷ e ∷ o.needed ∷ []); words = set (set (grown C w n s e x o (listed l 0 o.needed)) 3 a) 4 (free_count w - o.needed) }
-  unfolding placed append_at taken
-  placed-good t l a f p = rw (t, f, p)
-
 -- The nodes wanted ---------------------------------------------------------------------------------------
 
 module _ (C : Shape) (P : ℕ) (w : List ℕ) where
@@ -90,14 +49,27 @@ module _ (C : Shape) (P : ℕ) (w : List ℕ) where
       let h = holds (chain_sound C P w a seen (suc k)) t in
       ((link C P w a seen k t).inside, firsts-inside (count C w a) (seen ++ (a ∷ [])) k (is_true _ (search (and_l, and_r) depth 8)))
 
-  module _ (l : List NodeNo) (a : ℕ) where
-    pub listed-inside : (k : ℕ) → chain_sound C P w a [] k ≡ true → listed l 0 k ≡ firsts C w a k → Inside P (listed l 0 k)
-    listed-inside k t f = subst (Inside P) (sym f) (firsts-inside a [] k t)
+  -- the nodes that were read, as a slice
+  module _ (q : List NodeNo) (a k : ℕ) (t : chain_sound C P w a [] k ≡ true) (f : numbers q ≡ firsts C w a k) where
+    pub nodes_inside : Inside P (numbers q)
+    nodes_inside = subst (Inside P) (sym f) (firsts-inside a [] k t)
 
     -- the first of them is free, so it is no node of the tree
-    pub head_apart : (k n : ℕ) → chain_sound C P w a [] k ≡ true → listed l 0 k ≡ firsts C w a k → 0 < k → height C w n ≤ max_height → n ≢ number_at l 0
-    unfolding listed firsts
-    head_apart zero n t f p h e = absurd (omega arith)
-    head_apart (suc k) n t f p h e =
-        let z : number_at l 0 ≡ a = cc in
-        omega (arith, (link C P w a [] k t).marked, ap (height C w) (e ∙ z))
+    pub head_apart : (n : ℕ) → 0 < k → height C w n ≤ max_height → n ≢ number_at q 0
+    unfolding firsts
+    head_apart n p h e = apart q k t f p e
+      where
+        apart : (q : List NodeNo) (k : ℕ) → chain_sound C P w a [] k ≡ true → numbers q ≡ firsts C w a k → 0 < k → n ≢ number_at q 0
+        apart q zero t f p e = absurd (omega arith)
+        apart [] (suc k) t f p e = let z : ◌≡◌ {A = ℕ} 0 1 = cc in absurd (omega arith)
+        apart (m ∷ q) (suc k) t f p e = let z : m.0 ≡ a = cc in omega (arith, (link C P w a [] k t).marked, ap (height C w) (e ∙ z))
+
+-- k nodes of an array, as a slice
+nodes-from : (l : List NodeNo) (i k : ℕ) → i + k ≤ length l → numbers (take k (drop i l)) ≡ listed l i k
+unfolding listed
+nodes-from l i zero h = refl
+nodes-from l i (suc k) h =
+    ap (λ (z : List NodeNo). numbers (take (suc k) z)) (drop_more l i (record { 0 = 0 }) (omega arith)) ∙ ap (λ (z : List ℕ). number_at l i ∷ z) (nodes-from l (i + 1) k (omega arith))
+
+pub nodes_are : (l : List NodeNo) (k : ℕ) → k ≤ length l → numbers (take k l) ≡ listed l 0 k
+nodes_are l k h = nodes-from l 0 k (omega arith)

@@ -2,28 +2,26 @@
 
 #![tactic(auto)]
 
-ghost use Rattle.std.specs.Prelude.{◌≡◌, ◌≢◌, ◌+◌, ◌<◌, ◌≤◌};
+ghost use Rattle.std.specs.Prelude.{◌≡◌, ◌≢◌, ◌<◌, ◌≤◌, length};
 ghost use Rattle.model.specs.Words.{lent, free_count, free_head, height};
 ghost use Rattle.model.specs.Tree.{Open};
 ghost use Rattle.model.specs.Reading.{leaf};
 ghost use Rattle.model.specs.Refusals.{inserted};
 ghost use Rattle.model.specs.Append.{append_to, insert_row_page, room};
 ghost use Rattle.node_read.specs.Layout.{Fits, shape_of};
-ghost use Rattle.node_chain.specs.Chain.{listed};
-ghost use Rattle.append_path.specs.Inside.{Inside, number_at};
+ghost use Rattle.append_path.specs.Inside.{Inside, number_at, numbers};
 ghost use Rattle.tree_right_edge.specs.Edge.{SoundEdge, Usable, room_of};
 ghost use Rattle.call_append.specs.Placed.{grown, placed};
 
-use append_limits::Ruling;
 use append_path::NewPage;
-use model::answer::{Inserted, Refusal, RowPageIndexInsert};
+use model::answer::{Refusal, RowPageIndexInsert};
 use model::id::{NodeNo, PageID, RowID};
 use node_chain;
 use node_read::header;
-use node_read::header::{Opened, StoreHeader};
+use node_read::header::StoreHeader;
 use node_read::layout::Layout;
 use tree_right_edge;
-use tree_right_edge::{EdgeTest, Room};
+use tree_right_edge::Room;
 
 // A path of new nodes over the page goes to the branch with room; where none has room, the root, of this height, splits.
 fn grow_tree(
@@ -33,25 +31,31 @@ fn grow_tree(
     root_height: u64,
     room: Room,
     new: NewPage,
-    nodes: [NodeNo; 32],
+    nodes: &[NodeNo],
 )
     requires fits { Fits l s.old }
     requires root_lt_pool { (root.0 < l.pool) × (root_height ≡ height (shape_of l) s.old root.0) }
-    requires le_needed { (1 ≤ room.needed) × Usable (shape_of l) l.pool s.old root.0 (room_of room) }
-    requires inside { Inside l.pool (listed nodes 0 room.needed) × (root.0 ≢ number_at nodes 0) }
-    ensures { s.new ≡ grown (shape_of l) s.old root.0 new.start.0 new.end.0 new.page.0 (room_of room) (listed nodes 0 room.needed) }
+    requires le_needed { (1 ≤ room.needed) × (length nodes.now ≡ room.needed) × Usable (shape_of l) l.pool s.old root.0 (room_of room) }
+    requires inside { Inside l.pool (numbers nodes.now) × (root.0 ≢ number_at nodes.now 0) }
+    ensures { s.new ≡ grown (shape_of l) s.old root.0 new.start.0 new.end.0 new.page.0 (room_of room) (numbers nodes.now) }
 {
-    let k = room.needed as usize;
     if room.needed <= root_height {
-        append_write::hang_path(l, s, room.node, new, nodes, k);
+        append_write::hang_path(l, s, room.node, new, nodes);
         return;
     }
-    append_write::split_root(l, s, root, new, nodes, k);
+    append_write::split_root(l, s, root, new, nodes);
 }
 
 // A new page goes where there is room. Where the right leaf has it, the chain is neither read nor written; else its nodes
 // are read and tested before anything is written.
-fn place_page(s: &mut [u64], h: StoreHeader, root_height: u64, new: NewPage, room: Room) -> Inserted
+#[tactic(auto, unfolding(crate::specs::Placed::placed, model::specs::Append::append_at, model::specs::Append::taken), using(crate::proofs::Writing::nodes_are))]
+fn place_page(
+    s: &mut [u64],
+    h: StoreHeader,
+    root_height: u64,
+    new: NewPage,
+    room: Room,
+) -> Result<RowPageIndexInsert, Refusal>
     requires fits { Fits h.layout s.old }
     requires root_lt_pool { (h.root.0 < h.layout.pool) × (h.free_head.0 ≡ free_head s.old) × (h.free_count ≡ free_count s.old) }
     requires root_height_value { root_height ≡ height (shape_of h.layout) s.old h.root.0 }
@@ -60,29 +64,26 @@ fn place_page(s: &mut [u64], h: StoreHeader, root_height: u64, new: NewPage, roo
     ensures words { s.new ≡ (placed (shape_of h.layout) h.layout.pool s.old h.root.0 new.start.0 new.end.0 new.page.0 (room_of room)).words }
 {
     let l = h.layout;
-    let start_row_id = new.start;
-    let end_row_id = new.end;
     let done = RowPageIndexInsert {
-        start_row_id,
-        end_row_id,
+        start_row_id: new.start,
+        end_row_id: new.end,
         taken_nodes: room.needed,
     };
     if room.needed == 0 {
         append_write::hang_page(l, s, room.node, new);
-        return Inserted::Done(done);
+        return Ok(done);
     }
-    let wanted = node_chain::read_chain(l, &s[..], h.free_head, room.needed as usize);
-    let sound = wanted.sound;
-    if !sound {
-        return Inserted::Refused(Refusal::Unsound(NodeNo(NodeNo::HEADER)));
-    }
-    let nodes = wanted.nodes;
-    grow_tree(l, s, h.root, root_height, room, new, nodes);
+    let k = room.needed as usize;
+    let Some(wanted) = node_chain::read_chain(l, &s[..], h.free_head, k) else {
+        return Err(Refusal::Unsound(NodeNo::HEADER));
+    };
+    grow_tree(l, s, h.root, root_height, room, new, &wanted.nodes[..k]);
     node_chain::set_chain(s, wanted.next, h.free_count - room.needed);
-    Inserted::Done(done)
+    Ok(done)
 }
 
 // After the right leaf, with the room on the right edge: 4, 6 and 5, then the chain.
+#[tactic(auto, unfolding(model::specs::Append::append_to, append_limits::specs::Limits::limits_told, crate::specs::Placed::placed))]
 fn insert_after(
     s: &mut [u64],
     h: StoreHeader,
@@ -90,7 +91,7 @@ fn insert_after(
     free: Room,
     count: u64,
     page: PageID,
-) -> Inserted
+) -> Result<RowPageIndexInsert, Refusal>
     requires fits { Fits h.layout s.old }
     requires root_lt_pool { (h.root.0 < h.layout.pool) × (h.free_head.0 ≡ free_head s.old) × (h.free_count ≡ free_count s.old) }
     requires sound_edge { SoundEdge (shape_of h.layout) h.layout.pool s.old h.root.0 last.0 }
@@ -101,29 +102,22 @@ fn insert_after(
     let l = h.layout;
     let start = tree_right_edge::range_start(l, &s[..], last);
     let top = l.header(&s[..], h.root);
-    match append_limits::test_limits(start, count, top.height, free.needed, h.free_count) {
-        Ruling::Refused(r) => Inserted::Refused(r),
-        Ruling::Fine => {
-            let end = RowID(start.0 + count);
-            place_page(s, h, top.height, NewPage { start, end, page }, free)
-        }
-    }
+    append_limits::test_limits(start, count, top.height, free.needed, h.free_count)?;
+    let end = RowID(start.0 + count);
+    place_page(s, h, top.height, NewPage { start, end, page }, free)
 }
 
 // The page gets the next count rows.
-pub fn insert_row_page(s: &mut [u64], count: u64, page: PageID) -> Inserted
+#[tactic(auto, using(crate::proofs::FromHeader::insert_unsound))]
+pub fn insert_row_page(
+    s: &mut [u64],
+    count: u64,
+    page: PageID,
+) -> Result<RowPageIndexInsert, Refusal>
     ensures answer { inserted result ≡ (insert_row_page lent s.old count page.0).answer }
     ensures words { s.new ≡ (insert_row_page lent s.old count page.0).words }
 {
-    match header::open(&s[..]) {
-        Opened::Refused(r) => Inserted::Refused(r),
-        Opened::Open(h) => {
-            let edge = tree_right_edge::right_edge(h.layout, &s[..], h.root);
-            let test = edge.test;
-            match test {
-                EdgeTest::Unsound(n) => Inserted::Refused(Refusal::Unsound(n)),
-                EdgeTest::Sound => insert_after(s, h, edge.leaf, edge.room, count, page),
-            }
-        }
-    }
+    let h = header::open(&s[..])?;
+    let edge = tree_right_edge::right_edge(h.layout, &s[..], h.root)?;
+    insert_after(s, h, edge.leaf, edge.room, count, page)
 }

@@ -5,7 +5,7 @@ use mathlib.Core.Bool.{Bool, true, false}
 use mathlib.Core.Path.{◌≡◌}
 use native.Mathlib.Omega.{arith}
 use lib.Dec.{eqb}
-use borrow.Author.Tests.{lt-ltb, le-ltb, eq-eqb, ne_eqb}
+use borrow.Author.Tests.{lt-ltb, le-ltb, eq-eqb, ne_eqb, eqb-true, eqb-false}
 use Rattle.model.specs.Words.{Shape, height, count, free_mark}
 use Rattle.model.specs.FullCheck.{chain_ends}
 use Rattle.model.specs.Refusals.{result, damaged}
@@ -48,3 +48,7 @@ module _ (h : StoreHeader) (k : Counts) (chain : Bool) where
     pub end-held : k.nodes ≡ h.layout.pool - h.free_count → ending h k chain ≡ result (k.entries ∷ k.nodes ∷ h.free_count ∷ [])
     unfolding ending
     end-held d = rw (c, eq-eqb (k.nodes + h.free_count) h.layout.pool (omega arith))
+
+pub ruleset following = (ends-done, ends-out, ends_mark, ends-turn, eqb-true, eqb-false)
+
+pub ruleset ends = (end-chain, end-count, end-held)

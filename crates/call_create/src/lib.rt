@@ -9,7 +9,7 @@ ghost use Rattle.model.specs.Refusals.{created};
 ghost use Rattle.model.specs.Create.{chained, create, new_header};
 ghost use Rattle.node_read.specs.Layout.{Fits, shape_of};
 
-use model::answer::{Created, Refusal};
+use model::answer::Refusal;
 use model::id::{NodeNo, RowID};
 use model::node::RowPageIndexNodeHeader;
 use node_read::layout::Layout;
@@ -20,31 +20,24 @@ fn write_header(s: &mut [u64], capacity: u64, nodes: u64)
     requires { (8 ≤ length s.old) × (1 ≤ nodes) }
     ensures { s.new ≡ sets s.old 0 (new_header capacity nodes) }
 {
-    s[0] = capacity;
-    s[1] = nodes;
-    s[2] = 0;
-    s[3] = 1;
-    s[4] = nodes - 1;
-    s[5] = 0;
-    s[6] = 0;
-    s[7] = 0;
+    s[..8].copy_from_slice(&[capacity, nodes, 0, 1, nodes - 1, 0, 0, 0]);
 }
 
 // Nodes 1 and on are free, each before the next number.
+#[tactic(auto, unfolding(model::specs::Create::chained), using(node_write::proofs::Turns::stop))]
 fn link_nodes(l: Layout, s: &mut [u64])
     requires { Fits l s.old }
     ensures { s.new ≡ chained (shape_of l) s.old 1 (l.pool - 1) }
 {
-    let mut n: u64 = 1;
-    while n < l.pool {
+    for n in 1..l.pool {
         write::put(l, s, NodeNo(n), 0, RowPageIndexNodeHeader::FREE_MARK);
         write::put(l, s, NodeNo(n), 1, n + 1);
-        n += 1;
     }
 }
 
 // An empty store of so many nodes, each for capacity entries; its rows begin at start.
-pub fn new(s: &mut [u64], capacity: u64, nodes: u64, start: RowID) -> Created
+#[tactic(auto, unfolding(model::specs::Create::create, model::specs::Create::new_store), using(crate::proofs::Stores::new_steps))]
+pub fn new(s: &mut [u64], capacity: u64, nodes: u64, start: RowID) -> Result<(), Refusal>
     ensures answer { created result ≡ (create lent s.old capacity nodes start.0).answer }
     ensures words { s.new ≡ (create lent s.old capacity nodes start.0).words }
 {
@@ -52,15 +45,14 @@ pub fn new(s: &mut [u64], capacity: u64, nodes: u64, start: RowID) -> Created
         capacity,
         pool: nodes,
     };
-    let good = l.fits(&s[..]);
-    if !good {
-        return Created::Refused(Refusal::BadParameters);
+    if !l.fits(&s[..]) {
+        return Err(Refusal::BadParameters);
     }
     if RowPageIndexNodeHeader::ROW_LIMIT < start.0 {
-        return Created::Refused(Refusal::RowLimit);
+        return Err(Refusal::RowLimit);
     }
     write_header(s, capacity, nodes);
     write::empty_node(l, s, NodeNo(0), start);
     link_nodes(l, s);
-    Created::Done
+    Ok(())
 }

@@ -12,13 +12,14 @@ use Rattle.model.specs.Refusals.{Answer, result, refused, damaged, Outcome, refu
 use Rattle.model.specs.declared.answer.Refusal.{Refusal}
 use Rattle.node_read.specs.Layout.{shape_of, opened}
 use Rattle.node_read.specs.declared.header.StoreHeader.{StoreHeader}
-use Rattle.node_read.specs.declared.header.Opened.TheVariants.{Refused}
-use Rattle.node_read.proofs.Opened.{IsOpen, is-refused}
+use Rattle.std.specs.Prelude.{Err}
+use Rattle.node_read.proofs.Opened.{IsOpen, is_open, is-refused, opens-fits, opens-free}
+use Rattle.model.proofs.Writes.{freed-length}
 
 abbrev refuses : List ℕ → Answer → Outcome
 refuses w a = record { answer = a; words = w }
 
-pub empty_closed : (w : List ℕ) (r : Refusal) → opened w ≡ Refused r → destroy_empty lent w ≡ refuses w (refusal r)
+pub empty_closed : (w : List ℕ) (r : Refusal) → opened w ≡ Err r → destroy_empty lent w ≡ refuses w (refusal r)
 unfolding destroy_empty
 empty_closed w r e = is-refused w r e (refuses w) _
 
@@ -51,3 +52,5 @@ module _ (w : List ℕ) (h : StoreHeader) (o : IsOpen w h) where
     empty_done l =
         let m = subst (λ (g : StoreHeader). g.free_count + 1 ≤ g.layout.pool) o.header_is l in
         rw (o.passes, o.not-closed, empty_sound, of_root empty_root true e, le-leb (free_count w + 1) (pool w) m, o.header_is)
+
+pub ruleset emptying = (is_open, opens-fits, opens-free, empty_closed, empty_unsound, empty_not, empty_full, empty_done, freed-length)

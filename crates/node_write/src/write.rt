@@ -18,6 +18,7 @@ pub fn set_word(s: &mut [u64], i: usize, x: u64)
 }
 
 // Word j of node n becomes x.
+#[tactic(auto, unfolding(model::specs::Words::put), using(model::proofs::Words::place_lt))]
 pub fn put(l: Layout, s: &mut [u64], n: NodeNo, j: u64, x: u64)
     requires fits { Fits l s.old }
     requires n_lt_pool { (n.0 < l.pool) × (j < node_size l.capacity) }
@@ -40,6 +41,7 @@ pub fn put_header(l: Layout, s: &mut [u64], n: NodeNo, h: RowPageIndexNodeHeader
 }
 
 // Node n becomes an empty root leaf that starts at this row.
+#[tactic(auto, unfolding(model::specs::Words::emptied))]
 pub fn empty_node(l: Layout, s: &mut [u64], n: NodeNo, start: RowID)
     requires fits { Fits l s.old }
     requires n_lt_pool { n.0 < l.pool }

@@ -27,8 +27,8 @@ use Rattle.prune_boundary.specs.Trims.{trims_from, NoneBelow}
 use Rattle.prune_write.specs.Nodes.{AllIn}
 use Rattle.node_chain.proofs.Links.{listed-set}
 use Rattle.prune_write.proofs.Turns.{trims-turn, trims-stop}
-use Rattle.prune_collapse.specs.declared.Copy.{Copy}
-use Rattle.prune_collapse.specs.declared.Copy.TheVariants.{None, Child, Bad}
+use Rattle.std.specs.Prelude.{Option, Some, None, Result, Ok, Err}
+use Rattle.model.specs.declared.answer.UnsoundNode.{UnsoundNode}
 use Rattle.prune_collapse.specs.Copied.{SoundTop, copy_at}
 
 -- nodes found before
@@ -52,10 +52,13 @@ all_snoc [] m c = refl
 all_snoc (n ∷ ns) m c = ap (before n) (all_snoc ns m c)
 
 -- what the copy at a branch makes of the copies below it
+abbrev Copy : Type 0
+Copy = Result (Option NodeNo) UnsoundNode
+
 unfoldable copies_after : Copy → Copies → Copies
-copies_after None c = copies []
-copies_after (Child m) c = before m.0 c
-copies_after (Bad m) c = unsound m.0
+copies_after (Ok None) c = copies []
+copies_after (Ok (Some m)) c = before m.0 c
+copies_after (Err u) c = unsound u.0.0
 
 after-pick : (t : Bool) (x y : Copy) (c : Copies) → copies_after (pick t x y) c ≡ pick t (copies_after x c) (copies_after y c)
 after-pick true x y c = refl
@@ -152,7 +155,7 @@ first_pair_lem C w n zero r z t = absurd t
 first_pair_lem C w n (suc c) r z t = (omega arith, eqb→eq (row C w n 0) r (and_l (eqb (row C w n 0) r) (rises z (row C w n 0) (pairs_from C w (λ (x : ℕ). x) n (0 + 1) c)) t))
 
 -- a child is copied
-picked : (C : Shape) (P : ℕ) (w : List ℕ) (n h k : ℕ) (m : NodeNo) → Child m ≡ copy_at C P w n h k
+picked : (C : Shape) (P : ℕ) (w : List ℕ) (n h k : ℕ) (m : NodeNo) → Ok (Some m) ≡ copy_at C P w n h k
     → (m ≡ record { 0 = child C w n (count C w n - 1) }) × (count C w n - k ≡ 1) × (child C w n (count C w n - 1) < P) × (sound C (h - 1) (node_at C w (child C w n (count C w n - 1))) (row C w n (count C w n - 1)) Open ≡ true)
 unfolding copy_at
 picked C P w n h k m q =
@@ -160,7 +163,7 @@ picked C P w n h k m q =
     by_test (eqb (count C w n - k) 1)
     (λ u. by_test (ltb c P)
     (λ v. by_test (sound C (h - 1) (node_at C w c) (row C w n (count C w n - 1)) Open)
-    (λ x. let y : Child m ≡ Child (record { 0 = c }) = rw (u, v, x) at q in (cc, eqb-true (count C w n - k) 1 u, ltb-true c P v, x))
+    (λ x. let y : Ok (Some m) ≡ Ok (Some (record { 0 = c })) = rw (u, v, x) at q in (cc, eqb-true (count C w n - k) 1 u, ltb-true c P v, x))
     (λ x. let y = rw (u, v, x) at q in other (cc)))
     (λ v. let y = rw (u, v) at q in other (cc)))
     (λ u. let y = rw u at q in other (cc))
@@ -213,15 +216,15 @@ module _ {C : Shape} {P : ℕ} {w : List ℕ} {root : ℕ} {l : List Position} {
     turn : (c : Copy) → c ≡ copy_at C P w n h (get_or l i no_position).index → (e : ℕ) → whole C w root e ≡ trims_from l 0 d → all C P w root e ≡ before_all (listed nodes 0 i) (copies_after c (copies_from C P (h - 1) e (level C w (suc (h - 1)) kid) r))
     turn c x e q = rw x ((G.told e q).1 ∙ ap (before_all (listed nodes 0 i)) (copies_at C P w e h n (get_or l i no_position).index t own.2 (keeps e q)))
 
-    pub stops : None ≡ copy_at C P w n h (get_or l i no_position).index → (e : ℕ) → whole C w root e ≡ trims_from l 0 d → copies (listed nodes 0 i) ≡ all C P w root e
+    pub stops : Ok None ≡ copy_at C P w n h (get_or l i no_position).index → (e : ℕ) → whole C w root e ≡ trims_from l 0 d → copies (listed nodes 0 i) ≡ all C P w root e
     unfolding copies_after
-    stops x e q = sym (turn None x e q ∙ all-copies (listed nodes 0 i))
+    stops x e q = sym (turn (Ok None) x e q ∙ all-copies (listed nodes 0 i))
 
-    pub spoils : (m : NodeNo) → Bad m ≡ copy_at C P w n h (get_or l i no_position).index → (e : ℕ) → whole C w root e ≡ trims_from l 0 d → unsound m.0 ≡ all C P w root e
+    pub spoils : (u : UnsoundNode) → Err u ≡ copy_at C P w n h (get_or l i no_position).index → (e : ℕ) → whole C w root e ≡ trims_from l 0 d → unsound u.0.0 ≡ all C P w root e
     unfolding copies_after
-    spoils m x e q = sym (turn (Bad m) x e q ∙ all-unsound (listed nodes 0 i) m.0)
+    spoils u x e q = sym (turn (Err u) x e q ∙ all-unsound (listed nodes 0 i) u.0.0)
 
-    module _ (x : Child (record { 0 = kid }) ≡ copy_at C P w n h (get_or l i no_position).index) where
+    module _ (x : Ok (Some (record { 0 = kid })) ≡ copy_at C P w n h (get_or l i no_position).index) where
       starts : start C w kid ≡ r
       starts = (soundly C (h - 1) (node_at C w kid) r Open (holds _ (picked C P w n h (get_or l i no_position).index (record { 0 = kid }) x).3)).begin
 
@@ -249,14 +252,14 @@ module _ {C : Shape} {P : ℕ} {w : List ℕ} {root : ℕ} {l : List Position} {
                 (λ y. rw (get_or-set_other nodes i j (record { 0 = kid }) (record { 0 = 0 }) (eqb-false j i y)) (G.found j (omega (arith, eqb-false j i y))));
             told = λ e q. (
               below e q,
-              turn (Child (record { 0 = kid })) x e q ∙ all_snoc (listed nodes 0 i) kid (copies_from C P (h - 1) e (level C w (suc (h - 1)) kid) r)
+              turn (Ok (Some (record { 0 = kid }))) x e q ∙ all_snoc (listed nodes 0 i) kid (copies_from C P (h - 1) e (level C w (suc (h - 1)) kid) r)
                   ∙ ap (λ (ns : List ℕ). before_all ns (copies_from C P (h - 1) e (level C w (suc (h - 1)) kid) r)) (sym (listed-set nodes i (record { 0 = kid }) (omega (arith, G.high, G.low, G.long))))
                   ∙ ap (λ (s : ℕ). before_all (listed (set nodes i (record { 0 = kid })) 0 (i + 1)) (copies_from C P (h - 1) e (level C w (suc (h - 1)) kid) s)) (sym starts),
             );
           }
 
-    pub goes : (m : NodeNo) → Child m ≡ copy_at C P w n h (get_or l i no_position).index → Copying C P w root l d (set nodes i m) m.0 (h - 1) (i + 1)
-    goes m x = subst (λ (b : NodeNo). Child b ≡ copy_at C P w n h (get_or l i no_position).index → Copying C P w root l d (set nodes i b) b.0 (h - 1) (i + 1)) (sym (picked C P w n h (get_or l i no_position).index m x).0) next x
+    pub goes : (m : NodeNo) → Ok (Some m) ≡ copy_at C P w n h (get_or l i no_position).index → (g : ℕ) → g ≡ h - 1 → Copying C P w root l d (set nodes i m) m.0 g (i + 1)
+    goes m x g q = rw q (subst (λ (b : NodeNo). Ok (Some b) ≡ copy_at C P w n h (get_or l i no_position).index → Copying C P w root l d (set nodes i b) b.0 (h - 1) (i + 1)) (sym (picked C P w n h (get_or l i no_position).index m x).0) next x)
 
 -- at the root
 pub first : (C : Shape) (P : ℕ) (w : List ℕ) (root : ℕ) (edge : Path) → NoneBelow edge (height C w root + 1) → SoundTop C P w root → Copying C P w root edge.positions edge.depth (replicate 32 (record { 0 = 0 })) root (height C w root) 0

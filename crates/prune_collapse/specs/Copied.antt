@@ -1,5 +1,5 @@
 -- The nodes copied as the code answers them.
-use Rattle.std.specs.Prelude.{ℕ, suc, ◌-◌, ◌<◌, ◌≤◌, List, true, ◌≡◌, ltb, eqb}
+use Rattle.std.specs.Prelude.{ℕ, suc, ◌-◌, ◌<◌, ◌≤◌, List, true, ◌≡◌, Option, Some, None, Result, Ok, Err, ltb, eqb}
 use Rattle.model.specs.Words.{Shape, pick, height, count, start, row, child}
 use Rattle.model.specs.Tree.{Open, node_at, sound}
 use Rattle.model.specs.Reading.{root_tree}
@@ -10,25 +10,20 @@ use Rattle.prune_boundary.specs.Trims.{trims_of}
 use Rattle.node_read.specs.Layout.{shape_of}
 use Rattle.node_read.specs.declared.layout.Layout.{Layout}
 use Rattle.node_chain.specs.Chain.{listed}
-use Rattle.prune_collapse.specs.declared.CopyTest.{CopyTest}
-use Rattle.prune_collapse.specs.declared.CopyTest.TheVariants.{Unsound, Sound}
-use Rattle.prune_collapse.specs.declared.Copy.{Copy}
-use Rattle.prune_collapse.specs.declared.Copy.TheVariants as One
+use Rattle.model.specs.declared.answer.UnsoundNode.{UnsoundNode}
+use Rattle.model.specs.declared.id.NodeNo.{NodeNo}
 use Rattle.prune_collapse.specs.declared.Copies.{Copies}
 
-abbrev pub copies_with : CopyTest → List ℕ → Prune.Copies
-copies_with (Unsound n) ns = Prune.unsound n.0
-copies_with Sound ns = Prune.copies ns
-
-abbrev pub copies_of : Copies → Prune.Copies
-copies_of c = copies_with c.answer (listed c.nodes 0 c.count)
+abbrev pub copies_of : Result Copies UnsoundNode → Prune.Copies
+copies_of (Ok c) = Prune.copies (listed c.nodes 0 c.count)
+copies_of (Err u) = Prune.unsound u.0.0
 
 -- the copy at branch n of height h, of which k entries go: its last child, where that is the one entry that stays
-unfoldable pub copy_at : Shape → ℕ → List ℕ → ℕ → ℕ → ℕ → Copy
+unfoldable pub copy_at : Shape → ℕ → List ℕ → ℕ → ℕ → ℕ → Result (Option NodeNo) UnsoundNode
 copy_at C P w n h k =
     let c = child C w n (count C w n - 1) in
-    let tested = pick (sound C (h - 1) (node_at C w c) (row C w n (count C w n - 1)) Open) (One.Child (record { 0 = c })) (One.Bad (record { 0 = c })) in
-    pick (eqb (count C w n - k) 1) (pick (ltb c P) tested (One.Bad (record { 0 = n }))) One.None
+    let tested = pick (sound C (h - 1) (node_at C w c) (row C w n (count C w n - 1)) Open) (Ok (Some (record { 0 = c }))) (Err (record { 0 = record { 0 = c } })) in
+    pick (eqb (count C w n - k) 1) (pick (ltb c P) tested (Err (record { 0 = record { 0 = n } }))) (Ok None)
 
 -- a root that passed its test
 pub record SoundTop (C : Shape) (P : ℕ) (w : List ℕ) (n : ℕ) : Type 0 where

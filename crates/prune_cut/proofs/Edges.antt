@@ -29,13 +29,12 @@ use Rattle.prune_boundary.proofs.Distinct.{none, untouched_of, Standing, edge-st
 use Rattle.prune_boundary.proofs.Climbs.{node_in, edge_stays, edge-whole, edge-once, edge_few, edge-first}
 use Rattle.prune_boundary.proofs.Settled.{settled-last, settled-none, settled-trims}
 use Rattle.prune_write.specs.Nodes.{AllIn}
-use Rattle.prune_collapse.specs.Copied.{copies_with, copies_of, SoundTop, Collapses}
-use Rattle.prune_collapse.specs.declared.Copies as Copied
-use Rattle.prune_collapse.specs.declared.CopyTest.{CopyTest}
-use Rattle.prune_collapse.specs.declared.CopyTest.TheVariants.{Unsound, Sound}
+use Rattle.prune_collapse.specs.Copied.{SoundTop, Collapses}
 use Rattle.prune_cut.specs.Found.{Rooted, AllGo, SomeStay, reset_to, cut_to}
 use Rattle.prune_cut.specs.Writable.{Resettable, Writable, cut_words}
 use Rattle.prune_cut.proofs.Outside.{copies-outside}
+use Rattle.prune_cut.proofs.Taken.{listed-take, all-take}
+use Rattle.std.proofs.lemmas.List.{length-take-le}
 
 module _ {C : Shape} {P : ℕ} {w : List ℕ} {e root f j : ℕ} {edge : Path} (R : Rooted C P w root f) (E : PruneEdge C P w e root edge j) where
   abbrev h : ℕ
@@ -153,45 +152,43 @@ module _ {C : Shape} {P : ℕ} {w : List ℕ} {e root f j : ℕ} {edge : Path} (
             rw (y, z, y, g, trims-are)
 
     -- the nodes to be copied, as they were found
-    module _ (r : Copied.Copies) (are : Collapses C P w root edge (copies_of r)) where
-      found : (t : CopyTest) → r.answer ≡ t → copies_from C P h e tree (start C w root) ≡ copies_with t (listed r.nodes 0 r.count)
-      unfolding Collapses
-      found t q = sym (are e trims-are) ∙ rw q
+    found : (c : Copies) → Collapses C P w root edge c → copies_from C P h e tree (start C w root) ≡ c
+    unfolding Collapses
+    found c are = sym (are e trims-are)
 
-      -- what the cut comes to by them
-      pub some-unsound : (k : ℕ) (n : NodeNo) → r.answer ≡ Unsound n → cut_to C P w root e k (trims_of edge) (copies_from C P h e tree (start C w root)) ≡ record { answer = refused 2 n.0; words = w }
+    -- what the cut comes to by them
+    pub some-unsound : (k n : ℕ) → Collapses C P w root edge (unsound n) → cut_to C P w root e k (trims_of edge) (copies_from C P h e tree (start C w root)) ≡ record { answer = refused 2 n; words = w }
+    unfolding cut_to
+    some-unsound k n are = ap (cut_to C P w root e k (trims_of edge)) (found (unsound n) are)
+
+    module _ (nodes : List NodeNo) (levels : ℕ) (are : Collapses C P w root edge (copies (listed nodes 0 levels))) where
+      pub some-full : P - f < j + levels → (k : ℕ) → cut_to C P w root e k (trims_of edge) (copies_from C P h e tree (start C w root)) ≡ record { answer = damaged; words = w }
       unfolding cut_to
-      some-unsound k n q = ap (cut_to C P w root e k (trims_of edge)) (found (Unsound n) q)
+      some-full l k =
+          ap (cut_to C P w root e k (trims_of edge)) (found (copies (listed nodes 0 levels)) are)
+          ∙ rw (length-listed nodes 0 levels, lt-leb (free_count w + (length G + levels)) P (omega (arith, l, count-is, R.free, R.free_in)))
 
-      module _ (q : r.answer ≡ Sound) where
-        pub some-full : P - f < j + r.count → (k : ℕ) → cut_to C P w root e k (trims_of edge) (copies_from C P h e tree (start C w root)) ≡ record { answer = damaged; words = w }
-        unfolding cut_to
-        some-full l k =
-            ap (cut_to C P w root e k (trims_of edge)) (found Sound q)
-            ∙ rw (length-listed r.nodes 0 r.count, lt-leb (free_count w + (length G + r.count)) P (omega (arith, l, count-is, R.free, R.free_in)))
+      pub some-done : j + levels ≤ P - f → levels ≤ length nodes → (k : ℕ) → cut_to C P w root e k (trims_of edge) (copies_from C P h e tree (start C w root))
+          ≡ record { answer = result (k ∷ (j + levels) ∷ levels ∷ []); words = cut_words C w root e (trims_of edge) (listed (take levels nodes) 0 (length (take levels nodes))) }
+      unfolding cut_to
+      some-done l m k =
+          ap (cut_to C P w root e k (trims_of edge)) (found (copies (listed nodes 0 levels)) are)
+          ∙ rw (count-is, listed-take nodes levels m, length-listed nodes 0 levels, le-leb (free_count w + (length G + levels)) P (omega (arith, l, count-is, R.free, R.free_in)))
 
-        pub some-done : j + r.count ≤ P - f → (k : ℕ) → cut_to C P w root e k (trims_of edge) (copies_from C P h e tree (start C w root))
-            ≡ record { answer = result (k ∷ (j + r.count) ∷ r.count ∷ []); words = cut_words C w root e (trims_of edge) (listed r.nodes 0 r.count) }
-        unfolding cut_to
-        some-done l k =
-            ap (cut_to C P w root e k (trims_of edge)) (found Sound q)
-            ∙ rw (count-is, length-listed r.nodes 0 r.count, le-leb (free_count w + (length G + r.count)) P (omega (arith, l, count-is, R.free, R.free_in)))
-
-        -- and what may then be written
-        pub writable : (r.count ≤ 31) × AllIn P r.nodes r.count → j + r.count ≤ P - f → Writable C P w root edge j r.nodes r.count
-        unfolding level
-        writable a l =
-            let s = stands.1 in
-            let right : (n : ℕ) → e ≤ start C w n → occ n G ≡ 0 = λ n z. none (occ n G) (λ o. omega (arith, s.early kept n o)) in
-            let fits : free_count w + (length G + r.count) ≤ P = omega (arith, l, count-is, R.free, R.free_in) in
-            record {
-              reset = resettable (omega (arith, l));
-              low = shaped.1;
-              long = shaped.2;
-              trims = s.trimmed kept;
-              few = omega (arith, a.0);
-              found = a.1;
-              stays = untouched;
-              copies-stay = copies-outside C P w e G right h root (sound-at (level C w h) C w h root (start C w root) Open ∙ R.good) (subst (Untouched G) (sym trims-are) untouched) (listed r.nodes 0 r.count) (found Sound q);
-              room = omega (arith, fits, R.header.pool-high);
-            }
+      -- and what may then be written
+      pub writable : AllIn P nodes levels → j + levels ≤ P - f → levels ≤ length nodes → Writable C P w root edge j (take levels nodes)
+      unfolding level
+      writable a l m =
+          let s = stands.1 in
+          let right : (n : ℕ) → e ≤ start C w n → occ n G ≡ 0 = λ n z. none (occ n G) (λ o. omega (arith, s.early kept n o)) in
+          let fits : free_count w + (length G + levels) ≤ P = omega (arith, l, count-is, R.free, R.free_in) in
+          record {
+            reset = resettable (omega (arith, l));
+            low = shaped.1;
+            long = shaped.2;
+            trims = s.trimmed kept;
+            found = all-take nodes levels m P a;
+            stays = untouched;
+            copies-stay = rw (listed-take nodes levels m) (copies-outside C P w e G right h root (sound-at (level C w h) C w h root (start C w root) Open ∙ R.good) (subst (Untouched G) (sym trims-are) untouched) (listed nodes 0 levels) (found (copies (listed nodes 0 levels)) are));
+            room = omega (arith, fits, R.header.pool-high, length-take-le levels nodes m);
+          }

@@ -1,3 +1,4 @@
+pub mod Taken
 pub mod Outside
 pub mod Order
 pub mod Written

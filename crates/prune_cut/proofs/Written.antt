@@ -3,6 +3,7 @@ use Prim.Native.Nat.{ℕ, ◌+◌, ◌≤◌}
 use mathlib.Core.List.{List, [], ◌∷◌, ◌++◌, reverse}
 use mathlib.Core.Path.{◌≡◌}
 use native.Mathlib.Omega.{arith}
+use lib.ListN.{length}
 use Rattle.model.specs.Words.{Shape, free_count, free_all, copied, Header}
 use Rattle.model.specs.Prune.{trimmed, trim_all, copy_all}
 use Rattle.model.proofs.Words.{header_at}
@@ -40,18 +41,18 @@ module _ (C : Shape) (P : ℕ) where
   copies-header w n (m ∷ ms) hd = copies-header (copied C w m n) n ms (header_at C.cap P w (copied C w m n) hd (copied-length C m n w))
 
 -- what is known after each write
-module _ {C : Shape} {P : ℕ} {w : List ℕ} {root : ℕ} {edge : Path} {j : ℕ} {nodes : List NodeNo} {k : ℕ} (e : ℕ) (d : Writable C P w root edge j nodes k) where
+module _ {C : Shape} {P : ℕ} {w : List ℕ} {root : ℕ} {edge : Path} {j : ℕ} {nodes : List NodeNo} (e : ℕ) (d : Writable C P w root edge j nodes) where
   pub after_free : Header C.cap P (free_all C w (went_of C w (trims_of edge))) × Trims C P (free_all C w (went_of C w (trims_of edge))) (trims_of edge)
   after_free = (freed-header C P w _ d.reset.ready.header, freed-trims C P w _ (trims_of edge) d.stays d.trims)
 
   pub after-trim : Header C.cap P (trim_all C (free_all C w (went_of C w (trims_of edge))) e (trims_of edge))
   after-trim = trims-header C P _ e (trims_of edge) after_free.0 after_free.1
 
-  pub after-copy : Header C.cap P (copy_all C (trim_all C (free_all C w (went_of C w (trims_of edge))) e (trims_of edge)) root (listed nodes 0 k)) × (free_count (copy_all C (trim_all C (free_all C w (went_of C w (trims_of edge))) e (trims_of edge)) root (listed nodes 0 k)) + k ≤ 65535)
+  pub after-copy : Header C.cap P (copy_all C (trim_all C (free_all C w (went_of C w (trims_of edge))) e (trims_of edge)) root (listed nodes 0 (length nodes))) × (free_count (copy_all C (trim_all C (free_all C w (went_of C w (trims_of edge))) e (trims_of edge)) root (listed nodes 0 (length nodes))) + length nodes ≤ 65535)
   after-copy =
       let v = free_all C w (went_of C w (trims_of edge)) in
       let t = trim_all C v e (trims_of edge) in
-      (copies-header C P t root (listed nodes 0 k) after-trim, omega (arith, d.room, copies-word C t root (listed nodes 0 k) 4 (omega arith), trims-word C v e (trims_of edge) 4 (omega arith), free-all-count C P w (went_of C w (trims_of edge)) d.reset.ready.header))
+      (copies-header C P t root (listed nodes 0 (length nodes)) after-trim, omega (arith, d.room, copies-word C t root (listed nodes 0 (length nodes)) 4 (omega arith), trims-word C v e (trims_of edge) 4 (omega arith), free-all-count C P w (went_of C w (trims_of edge)) d.reset.ready.header))
 
-  pub in_order : free_all C (copy_all C (trim_all C (free_all C w (went_of C w (trims_of edge))) e (trims_of edge)) root (listed nodes 0 k)) (reverse (listed nodes 0 k)) ≡ free_all C (copy_all C (trim_all C w e (trims_of edge)) root (listed nodes 0 k)) (went_of C w (trims_of edge) ++ reverse (listed nodes 0 k))
-  in_order = freed-first C P w root e (trims_of edge) (listed nodes 0 k) (went_of C w (trims_of edge)) d.reset.ready.header d.trims d.reset.root-stays d.copies-stay d.stays
+  pub in_order : free_all C (copy_all C (trim_all C (free_all C w (went_of C w (trims_of edge))) e (trims_of edge)) root (listed nodes 0 (length nodes))) (reverse (listed nodes 0 (length nodes))) ≡ free_all C (copy_all C (trim_all C w e (trims_of edge)) root (listed nodes 0 (length nodes))) (went_of C w (trims_of edge) ++ reverse (listed nodes 0 (length nodes)))
+  in_order = freed-first C P w root e (trims_of edge) (listed nodes 0 (length nodes)) (went_of C w (trims_of edge)) d.reset.ready.header d.trims d.reset.root-stays d.copies-stay d.stays

@@ -18,17 +18,16 @@ pub record Resettable (C : Shape) (P : ℕ) (w : List ℕ) (root : ℕ) (edge : 
   pub inside : root < P
   pub root-stays : occ root (went_of C w (trims_of edge)) ≡ 0
 
--- something is left, and k nodes are copied into the root
-pub record Writable (C : Shape) (P : ℕ) (w : List ℕ) (root : ℕ) (edge : Path) (j : ℕ) (nodes : List NodeNo) (k : ℕ) : Type 0 where
+-- something is left, and nodes are copied into the root
+pub record Writable (C : Shape) (P : ℕ) (w : List ℕ) (root : ℕ) (edge : Path) (j : ℕ) (nodes : List NodeNo) : Type 0 where
   pub reset : Resettable C P w root edge j
   pub low : edge.depth ≤ 32
   pub long : length edge.positions ≡ 32
   pub trims : Trims C P w (trims_of edge)
-  pub few : k ≤ 32
-  pub found : AllIn P nodes k
+  pub found : AllIn P nodes (length nodes)
   pub stays : Untouched (went_of C w (trims_of edge)) (trims_of edge)
-  pub copies-stay : Outside (went_of C w (trims_of edge)) (listed nodes 0 k)
-  pub room : free_count w + length (went_of C w (trims_of edge)) + k ≤ 65535
+  pub copies-stay : Outside (went_of C w (trims_of edge)) (listed nodes 0 (length nodes))
+  pub room : free_count w + length (went_of C w (trims_of edge)) + length nodes ≤ 65535
 
 -- the words that a cut leaves, and a reset
 abbrev pub cut_words : Shape → List ℕ → ℕ → ℕ → List (ℕ × ℕ) → List ℕ → List ℕ

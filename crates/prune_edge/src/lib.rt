@@ -9,7 +9,7 @@ ghost use Rattle.node_read.specs.Layout.{Fits, shape_of};
 ghost use Rattle.prune_boundary.specs.Edge.{Settled, goes_at};
 ghost use Rattle.prune_edge.specs.Found.{Climbs, Finds, Given};
 
-use model::path::{Path, Position};
+use model::path::Path;
 use node_read::layout::Layout;
 
 // On each level of the tree the node that loses entries, with how many, 0 below the last; and how many nodes go.
@@ -29,19 +29,11 @@ fn climb(l: Layout, s: &[u64], path: Path, used: u64, left: u64) -> Boundary
     let mut edge = path;
     let mut gone = left;
     let at = edge.depth - 1;
-    let last = edge.positions[at];
-    let leaf = last.node;
-    edge.positions[at] = Position {
-        node: leaf,
-        index: used,
-    };
+    edge.positions[at].index = used;
     while 1 < edge.depth {
         let above = edge.depth - 1;
         let top = edge.positions[above];
-        let node = top.node;
-        let index = top.index;
-        let h = l.header(s, node);
-        if index < h.count {
+        if top.index < l.header(s, top.node).count {
             return Boundary { edge, gone };
         }
         edge.depth = above;
@@ -51,6 +43,7 @@ fn climb(l: Layout, s: &[u64], path: Path, used: u64, left: u64) -> Boundary
 }
 
 // How many entries go of the node i levels below the root: all positions but the last stand after the entry that leads down.
+#[tactic(auto, unfolding(prune_boundary::specs::Edge::goes_at))]
 fn goes(depth: usize, i: usize, index: u64) -> u64
     requires { (i < 32) × (i + 1 < depth → 1 ≤ index) }
     ensures { result ≡ goes_at depth i index }
@@ -65,21 +58,14 @@ fn goes(depth: usize, i: usize, index: u64) -> u64
 }
 
 // The first levels of a path that was climbed, each with how many entries go.
-fn settle(climbed: Path, levels: usize) -> Path
-    requires levels_bound { (levels ≤ 32) × (length climbed.positions ≡ 32) }
-    requires by_index { (i : ℕ) → i + 1 < climbed.depth → 1 ≤ (get_or climbed.positions i no_position).index }
-    ensures { Settled climbed result levels }
+fn settle(edge: &mut Path, levels: usize)
+    requires levels_bound { (levels ≤ 32) × (length edge.old.positions ≡ 32) }
+    requires by_index { (i : ℕ) → i + 1 < edge.old.depth → 1 ≤ (get_or edge.old.positions i no_position).index }
+    ensures { Settled edge.old edge.new levels }
 {
-    let mut edge = climbed;
-    let mut i: usize = 0;
-    while i < levels {
-        let p = edge.positions[i];
-        let node = p.node;
-        let index = goes(edge.depth, i, p.index);
-        edge.positions[i] = Position { node, index };
-        i += 1;
+    for i in 0..levels {
+        edge.positions[i].index = goes(edge.depth, i, edge.positions[i].index);
     }
-    edge
 }
 
 // The edge that a path to the last entry that goes leads to; its leaf has so many entries that go, and so many nodes were left.
@@ -88,12 +74,7 @@ pub fn find_edge(l: Layout, s: &[u64], path: Path, used: u64, left: u64) -> Boun
     requires given { Given (shape_of l) l.pool s.now path used left }
     ensures { Finds (shape_of l) l.pool s.now path used left result }
 {
-    let levels = path.depth;
-    let top = climb(l, s, path, used, left);
-    let climbed = top.edge;
-    let edge = settle(climbed, levels);
-    Boundary {
-        edge,
-        gone: top.gone,
-    }
+    let mut boundary = climb(l, s, path, used, left);
+    settle(&mut boundary.edge, path.depth);
+    boundary
 }

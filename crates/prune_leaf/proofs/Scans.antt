@@ -5,7 +5,7 @@ use mathlib.Core.Bool.{Bool, true, false}
 use mathlib.Core.Path.{◌≡◌, refl, sym, ap, ◌∙◌}
 use native.Mathlib.Omega.{arith}
 use native.Mathlib.Numerals.{add-one}
-use native.Mathlib.Nat.{eq-or-lt_of_le, zero-add}
+use native.Mathlib.Nat.{eq-or-lt_of_le, sub-zero, zero-add}
 use mathlib.Core.Logic.{⊎_elim}
 use lib.ListN.{get_or, length, drop, drop_of_length-le}
 use lib.Seq.{drop-cons}
@@ -84,22 +84,14 @@ module _ (C : Shape) (w : List ℕ) (e : ℕ) where
   turns-end n i k s l = let z : k - i ≡ 0 = omega arith in rw z
 
 -- What the list comes to -----------------------------------------------------------------------------------
-pub ends-short : (e p c : ℕ) → (c ≡ e → ⊥) → ran_out e (on [] p c) ≡ stopped 10 p
-unfolding ran_out
-ends-short e p c d = rw (ne_eqb c e d)
-
-pub ends_at : (e p c : ℕ) → c ≡ e → ran_out e (on [] p c) ≡ on [] p e
-unfolding ran_out
-ends_at e p c q = rw (eq-eqb c e q, q)
-
 pub ends-long : (e : ℕ) (ids : List ℕ) (p c : ℕ) → p < length ids → ran_out e (on (drop p ids) p c) ≡ stopped 11 p
 unfolding ran_out
 ends-long e ids p c l = rw (one_left ids p l)
 
--- what is said of a leaf, where h and k are its height and count
-pub told : (C : Shape) (w : List ℕ) (e n : ℕ) (ids : List ℕ) (p c k : ℕ) → height C w n ≡ 0 → k ≡ count C w n → {x : Scan} → x ≡ scan_leaf C w e n 0 k (on (drop p ids) p c)
-    → x ≡ pick (eqb (height C w n) 0) (scan_leaf C w e n 0 (count C w n) (on (drop p ids) p c)) (on (drop p ids) p c)
-told C w e n ids p c k a d q = rw (eq-eqb (height C w n) 0 a) (q ∙ ap (λ (j : ℕ). scan_leaf C w e n 0 j (on (drop p ids) p c)) d)
+-- what is said of a leaf with k entries
+pub told : (C : Shape) (w : List ℕ) (e n : ℕ) (ids : List ℕ) (p c k : ℕ) → height C w n ≡ 0 → k ≡ count C w n
+    → pick (eqb (height C w n) 0) (scan_leaf C w e n 0 (count C w n) (on (drop p ids) p c)) (on (drop p ids) p c) ≡ scan_leaf C w e n 0 (k - 0) (on (drop p ids) p c)
+told C w e n ids p c k a d = rw (eq-eqb (height C w n) 0 a, ← d, sub-zero)
 
 -- The last entry named ---------------------------------------------------------------------------------------
 -- from place p and entry i on, k entries lead to place p₂

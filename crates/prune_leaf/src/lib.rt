@@ -12,21 +12,15 @@ use model::answer::Refusal;
 use model::id::{NodeNo, RowID};
 use node_read::layout::Layout;
 
-// The ids named so far and where the last entry of them ends; or why the list is refused.
+// How many ids are named so far, and where the last entry of them ends.
 #[derive(Clone, Copy)]
-pub enum Progress {
-    On(usize, RowID),
-    Stopped(Refusal),
-}
-
-// How many entries the list names, all of them ending with the prefix; or why it is refused.
-#[derive(Clone, Copy)]
-pub enum Named {
-    Entries(u64),
-    Refused(Refusal),
+pub struct Progress {
+    pub place: usize,
+    pub reached: RowID,
 }
 
 // The end of entry i of leaf n.
+#[tactic(auto, unfolding(model::specs::Prune::entry_end))]
 fn entry_end(l: Layout, s: &[u64], n: NodeNo, i: u64) -> RowID
     requires fits { Fits l s.now }
     requires n_lt_pool { (n.0 < l.pool) × (i < count (shape_of l) s.now n.0) × (count (shape_of l) s.now n.0 ≤ l.capacity) }
@@ -39,54 +33,50 @@ fn entry_end(l: Layout, s: &[u64], n: NodeNo, i: u64) -> RowID
     h.end_row_id
 }
 
-// The entries of node n, where it is a leaf, against the ids from this place on.
+// The entries of node n, where it is a leaf, against the ids from a place on; or why the list is refused.
 pub fn scan_node(
     l: Layout,
     s: &[u64],
     n: NodeNo,
     end: RowID,
     ids: &[u64],
-    place: usize,
-    reached: RowID,
-) -> Progress
+    from: Progress,
+) -> Result<Progress, Refusal>
     requires fits { Fits l s.now }
     requires n_lt_pool { (n.0 < l.pool) × (count (shape_of l) s.now n.0 ≤ l.capacity) }
-    ensures { progress_of ids.now result ≡ node_scan l s.now end.0 n.0 ids.now place reached.0 }
+    ensures { progress_of ids.now result ≡ node_scan l s.now end.0 n.0 ids.now from.place from.reached.0 }
 {
     let h = l.header(s, n);
     if !h.is_leaf() {
-        return Progress::On(place, reached);
+        return Ok(from);
     }
-    let count = h.count;
-    let mut at = place;
-    let mut to = reached;
-    let mut i: u64 = 0;
-    while i < count {
-        if ids.len() <= at {
-            return Progress::On(at, to);
+    let mut place = from.place;
+    let mut reached = from.reached;
+    for i in 0..h.count {
+        if ids.len() <= place {
+            return Ok(Progress { place, reached });
         }
-        let page = l.page(s, n, i);
-        if page.0 != ids[at] {
-            return Progress::Stopped(Refusal::PageDiffers(at as u64));
+        if l.page(s, n, i).0 != ids[place] {
+            return Err(Refusal::PageDiffers(place as u64));
         }
         let next = entry_end(l, s, n, i);
-        if end.0 < next.0 {
-            return Progress::Stopped(Refusal::EndDiffers(at as u64));
+        if end < next {
+            return Err(Refusal::EndDiffers(place as u64));
         }
-        at += 1;
-        to = next;
-        i += 1;
+        place += 1;
+        reached = next;
     }
-    Progress::On(at, to)
+    Ok(Progress { place, reached })
 }
 
-// What a list comes to that is used.
-pub fn finish(end: RowID, named: usize, reached: RowID) -> Named
-    ensures answer { named_of end.0 result ≡ ran_out end.0 (on [] named reached.0) }
-    ensures ends { EndsAt end.0 reached.0 result }
+// How many entries a list that is used names, all of them ending with the prefix; or why it is refused.
+#[tactic(auto, unfolding(crate::specs::Progress::EndsAt, model::specs::Prune::ran_out))]
+pub fn finish(end: RowID, p: Progress) -> Result<u64, Refusal>
+    ensures answer { named_of end.0 result ≡ ran_out end.0 (on [] p.place p.reached.0) }
+    ensures ends { EndsAt end.0 p.reached.0 result }
 {
-    if reached.0 != end.0 {
-        return Named::Refused(Refusal::EndDiffers(named as u64));
+    if p.reached != end {
+        return Err(Refusal::EndDiffers(p.place as u64));
     }
-    Named::Entries(named as u64)
+    Ok(p.place as u64)
 }

@@ -15,8 +15,6 @@ use Rattle.model.specs.Paths.{no_position, last_of, entered, rooted}
 use Rattle.model.specs.declared.path.Position.{Position}
 use Rattle.model.specs.declared.path.Path.{Path}
 use Rattle.node_test.specs.Test.{limit_of}
-use Rattle.node_test.specs.declared.Limit.{Limit}
-use Rattle.node_test.specs.declared.Limit.TheVariants as L
 use Rattle.law_formed.specs.Visits.{lefts}
 use Rattle.law_formed.proofs.Tally.{left-append}
 use Rattle.tree_tally.specs.Tally.{more, few}
@@ -32,18 +30,17 @@ use Rattle.tree_turn.proofs.Turns.{Held, turn_at, start-held, turn_up, held_up, 
 use Rattle.model.specs.Refusals.{Answer, result, refused}
 use Rattle.prune_boundary.specs.Behind.{Passed, BehindPath}
 use Rattle.prune_leaf.specs.Progress.{Last}
-use Rattle.prune_boundary.specs.Edge.{went_of, trims_on}
-use Rattle.prune_list.specs.Named.{ending_of}
-use Rattle.prune_leaf.specs.Progress.{stopped_by, EndsAt}
-use Rattle.prune_leaf.specs.declared.Named.{Named}
-use Rattle.prune_leaf.specs.declared.Named.TheVariants.{Entries, Refused}
+use Rattle.prune_boundary.specs.Edge.{went_of, trims_on, Ended}
+use Rattle.prune_leaf.specs.Progress.{stopped_by}
+use Rattle.model.specs.declared.id.RowID.{RowID}
+use Rattle.std.specs.Prelude.{Option, None}
 use Rattle.tree_turn.proofs.Tests.{no_more}
 use Rattle.prune_boundary.proofs.Behind.{sound-level, start-behind, at_last_lem, path-out, path_in}
 use Rattle.prune_boundary.proofs.Went.{went-rooted, went-entered, went-popped}
 use Rattle.prune_leaf.proofs.Scans.{one_left, none_left, ends-long, scan-stopped, scan-used, noded}
 
 -- S is what the list comes to; it is named up to a place, and the last entry named ends at a row
-pub record Scanning (C : Shape) (P : ℕ) (w : List ℕ) (e root : ℕ) (ids : List ℕ) (S : Scan) (p : Path) (nexts : List Limit) (firsts : List ℕ) (named to last nodes : ℕ) : Type 0 where
+pub record Scanning (C : Shape) (P : ℕ) (w : List ℕ) (e root : ℕ) (ids : List ℕ) (S : Scan) (p : Path) (nexts : List (Option RowID)) (firsts : List ℕ) (named to last nodes : ℕ) : Type 0 where
   pub held : Held C P w p nexts firsts
   pub told : S ≡ ran_out e (scan C w e (left false C P w p) (on (drop named ids) named to))
   pub behind : BehindPath C P w root p
@@ -53,17 +50,15 @@ pub record Scanning (C : Shape) (P : ℕ) (w : List ℕ) (e root : ℕ) (ids : L
   pub went : 0 < p.depth → lefts seen ≡ went_of C w (trims_on p)
   pub counted : nodes ≡ few (length (lefts seen))
 
-module _ {C : Shape} {P : ℕ} {w : List ℕ} {e root : ℕ} {ids : List ℕ} {S : Scan} {p : Path} {nexts : List Limit} {firsts : List ℕ} {named to last nodes : ℕ} (G : Scanning C P w e root ids S p nexts firsts named to last nodes) where
+module _ {C : Shape} {P : ℕ} {w : List ℕ} {e root : ℕ} {ids : List ℕ} {S : Scan} {p : Path} {nexts : List (Option RowID)} {firsts : List ℕ} {named to last nodes : ℕ} (G : Scanning C P w e root ids S p nexts firsts named to last nodes) where
   -- the list is used
   pub used : length ids ≤ named → S ≡ ran_out e (on [] named to)
   used l = G.told ∙ rw (none_left ids named l, scan-used C w e (left false C P w p) named to)
 
-  pub used-ending : length ids ≤ named → (r : Named) → EndsAt e to r → ending_of C P w e root r p last nodes
-  unfolding EndsAt
-  used-ending l (Entries k) q =
+  pub used-ending : length ids ≤ named → to ≡ e → Ended C P w e root p last nodes
+  used-ending l q =
       let n = G.named-last l in
       record { deep = n.0; long = G.held.long; valid = G.held.valid; behind = G.behind; last = subst (λ (c : ℕ). Last C w (last_of p).node.0 last c) q n.1; seen = G.seen; walked = G.walked; went = G.went n.0; counted = G.counted }
-  used-ending l (Refused r) q = tt
 
   module _ (l : named < length ids) where
     -- no leaf is left, but ids are
@@ -78,12 +73,12 @@ module _ {C : Shape} {P : ℕ} {w : List ℕ} {e root : ℕ} {ids : List ℕ} {S
           record {
             held = held_up G.held z f;
             told = G.told ∙ rw (turn_up G.held z f false).one;
-            behind = path-out C P w root p z G.behind (left_it C P w (last_of p).node.0 (last_of p).index (limit_of (get_or nexts (p.depth - 1) L.Open)) f);
+            behind = path-out C P w root p z G.behind (left_it C P w (last_of p).node.0 (last_of p).index (limit_of (get_or nexts (p.depth - 1) None)) f);
             named-last = λ h. absurd (omega arith);
             seen = G.seen ++ (Leave (last_of p).node.0 ∷ []);
             walked = walked-out G.walked z (turn_up G.held z f false);
             went = λ d. (left-append G.seen (Leave (last_of p).node.0 ∷ []) ∙ ap (λ (ns : List ℕ). ns ++ ((last_of p).node.0 ∷ [])) (G.went z)
-                ∙ sym (went-popped C P w p z root (at_last_lem C P w root p z G.behind) (omega arith) (no_more C w (last_of p).node.0 (last_of p).index (left_it C P w (last_of p).node.0 (last_of p).index (limit_of (get_or nexts (p.depth - 1) L.Open)) f))));
+                ∙ sym (went-popped C P w p z root (at_last_lem C P w root p z G.behind) (omega arith) (no_more C w (last_of p).node.0 (last_of p).index (left_it C P w (last_of p).node.0 (last_of p).index (limit_of (get_or nexts (p.depth - 1) None)) f))));
             counted = rw (G.counted, few-more (length (lefts G.seen))) (ap few (sym (ap (λ (ns : List ℕ). length ns) (left-append G.seen (Leave (last_of p).node.0 ∷ [])) ∙ length-append (lefts G.seen) ((last_of p).node.0 ∷ []))));
           }
 
@@ -92,7 +87,7 @@ module _ {C : Shape} {P : ℕ} {w : List ℕ} {e root : ℕ} {ids : List ℕ} {S
       unfolding scan spoilt ran_out
       scanning_bad {c} f = sym (G.told ∙ rw ((turn-bad G.held z f false).one, one_left ids named l, scan-stopped C w e (left false C P w (turned_path p)) 2 c))
 
-      module _ {c : ℕ} (b : Limit) {first : ℕ} (f : down c (limit_of b) first ≡ turn_at C P w p nexts) where
+      module _ {c : ℕ} (b : Option RowID) {first : ℕ} (f : down c (limit_of b) first ≡ turn_at C P w p nexts) where
         abbrev of_node : Scan
         of_node = pick (eqb (height C w c) 0) (scan_leaf C w e c 0 (count C w c) (on (drop named ids) named to)) (on (drop named ids) named to)
 
@@ -136,7 +131,7 @@ module _ {C : Shape} {P : ℕ} {w : List ℕ} {e root : ℕ} {ids : List ℕ} {S
 -- the first turn, at a node just entered
 pub start_scanning : (C : Shape) (P : ℕ) (w : List ℕ) (e : ℕ) (ids : List ℕ) (root first named to last : ℕ) → Valid C P w (height C w root) (entered root ∷ []) → first ≡ out_of C P w (height C w root) root
     → Passed C P w (height C w root) root [] → (length ids ≤ named → Last C w root last to)
-    → Scanning C P w e root ids (ran_out e (scan C w e (below false C P w root) (on (drop named ids) named to))) (rooted root) (replicate 32 L.Open) (replicate 32 first) named to last 0
+    → Scanning C P w e root ids (ran_out e (scan C w e (below false C P w root) (on (drop named ids) named to))) (rooted root) (replicate 32 None) (replicate 32 first) named to last 0
 unfolding lefts
 start_scanning C P w e ids root first named to last v f g k =
     record { held = start-held C P w root first v f; told = ap (λ (vs : List Visit). ran_out e (scan C w e vs (on (drop named ids) named to))) (sym (rooted-left false C P w root v)); behind = start-behind C P w root g; named-last = λ m. (omega arith, k m); seen = []; walked = start-walked v; went = λ d. went-rooted C P w root; counted = sym (few-is 0 (omega arith)) }

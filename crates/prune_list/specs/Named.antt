@@ -1,29 +1,30 @@
 -- The check of the list as the code answers it.
-use Rattle.std.specs.Prelude.{ℕ, suc, ◌<◌, ◌≤◌, List, [], true, false, ◌≡◌, drop, length}
+use Rattle.std.specs.Prelude.{ℕ, suc, ◌<◌, ◌≤◌, List, [], true, false, ◌≡◌, Result, Ok, Err, drop, length}
 use Rattle.model.specs.Words.{Shape, height, start}
 use Rattle.model.specs.Tree.{Open, level, node_at}
 use Rattle.model.specs.Reading.{passes, visits}
 use Rattle.model.specs.Prune.{Scan, on, ran_out, scan}
 use Rattle.model.specs.declared.id.NodeNo.{NodeNo}
 use Rattle.model.specs.declared.id.RowID.{RowID}
-use Rattle.model.specs.declared.path.Path.{Path}
 use Rattle.node_read.specs.Layout.{shape_of}
 use Rattle.node_read.specs.declared.layout.Layout.{Layout}
 use Rattle.tree_turn.specs.Left.{below}
 use Rattle.prune_boundary.specs.Behind.{Passed}
-use Rattle.prune_leaf.specs.Progress.{Last}
+use Rattle.model.specs.declared.answer.Refusal.{Refusal}
+use Rattle.model.specs.Refusals.{refusal}
+use Rattle.prune_leaf.specs.Progress.{Last, stopped_by}
 use Rattle.prune_boundary.specs.Edge.{Ended}
 use Rattle.prune_list.specs.declared.Prefix.{Prefix}
-use Rattle.prune_leaf.specs.declared.Named.{Named}
-use Rattle.prune_leaf.specs.declared.Named.TheVariants.{Entries, Refused}
 
-abbrev pub ending_of : Shape → ℕ → List ℕ → ℕ → ℕ → Named → Path → ℕ → ℕ → Type 0
-ending_of C P w e root (Entries k) p u left = Ended C P w e root p u left
-ending_of C P w e root (Refused r) p u left = Unit {0}
+-- no ids are left, and the last entry ends at e
+abbrev pub prefix_of : ℕ → Result Prefix Refusal → Scan
+prefix_of e (Ok x) = on [] x.entries e
+prefix_of e (Err r) = stopped_by (refusal r)
 
 -- where the list is accepted
-unfoldable pub Ending : Shape → ℕ → List ℕ → ℕ → ℕ → Prefix → Type 0
-Ending C P w e root x = ending_of C P w e root x.answer x.path x.used x.left
+unfoldable pub Ending : Shape → ℕ → List ℕ → ℕ → ℕ → Result Prefix Refusal → Type 0
+Ending C P w e root (Ok x) = Ended C P w e root x.path x.used x.left
+Ending C P w e root (Err r) = Unit {0}
 
 -- what the leaves below node n, and those of the tree from root n, come to against the ids
 abbrev pub below_scan : Layout → List ℕ → RowID → NodeNo → List ℕ → ℕ → RowID → Scan
@@ -42,6 +43,6 @@ PassedRoot l w n =
     let C = shape_of l in
     (n < l.pool) × (height C w n ≤ 31) × (passes false C (height C w n) (node_at C w n) (start C w n) Open ≡ true)
 
--- node n passed its test, and where the list is used up to place p, its entry u - 1 is the last named
-abbrev pub Begun : Layout → List ℕ → ℕ → List ℕ → ℕ → ℕ → ℕ → Type 0
-Begun l w n ids p u c = Passed (shape_of l) l.pool w (height (shape_of l) w n) n [] × (length ids ≤ p → Last (shape_of l) w n u c)
+-- node n passed its test, and where the list is used up to place p, its entry p - 1 is the last named
+abbrev pub Begun : Layout → List ℕ → ℕ → List ℕ → ℕ → ℕ → Type 0
+Begun l w n ids p c = Passed (shape_of l) l.pool w (height (shape_of l) w n) n [] × (length ids ≤ p → Last (shape_of l) w n p c)

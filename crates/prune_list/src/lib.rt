@@ -8,44 +8,29 @@ ghost use Rattle.model.specs.Paths.{entered};
 ghost use Rattle.node_read.specs.Layout.{Fits, shape_of};
 ghost use Rattle.tree_turn.specs.Left.{Valid};
 ghost use Rattle.tree_turn.specs.Turn.{out_of};
-ghost use Rattle.prune_list.specs.Named.{Begun, Ending, PassedRoot, below_scan, tree_scan};
-ghost use Rattle.prune_leaf.specs.Progress.{named_of};
+ghost use Rattle.prune_list.specs.Named.{Begun, Ending, PassedRoot, below_scan, prefix_of, tree_scan};
 
 use model::answer::Refusal;
 use model::id::{NodeNo, RowID};
 use model::path::{Path, Position};
 use node_read::layout::Layout;
-use node_test::Limit;
 use prune_leaf;
-use prune_leaf::{Named, Progress};
+use prune_leaf::Progress;
 use tree_tally;
 use tree_turn::turn;
-use tree_turn::turn::Turn;
 
-// What the list names, the path to the leaf of the last entry named, how many entries of that leaf are named, and how many
-// nodes the scan left. On the path each position but the last stands at the entry after the one that leads down.
+// An accepted list: how many entries it names, the path to the leaf of the last of them, how many entries of that leaf are named,
+// and how many nodes the scan left. On the path each position but the last stands at the entry after the one that leads down.
 #[derive(Clone, Copy)]
 pub struct Prefix {
-    pub answer: Named,
+    pub entries: u64,
     pub path: Path,
     pub used: u64,
     pub left: u64,
 }
 
-// A list that is refused.
-fn refused(r: Refusal) -> Prefix
-    ensures { result.answer ≡ Named.Refused r }
-{
-    let path = Path::new();
-    Prefix {
-        answer: Named::Refused(r),
-        path,
-        used: 0,
-        left: 0,
-    }
-}
-
-// The leaves below a node that was entered, against the ids from this place on. The path is stored to in place.
+// The leaves below a node that was entered, against the ids from a place on; what is named before is in that node. The path is
+// stored to in place.
 fn scan_below(
     l: Layout,
     s: &[u64],
@@ -53,25 +38,25 @@ fn scan_below(
     first: u64,
     end: RowID,
     ids: &[u64],
-    mut place: usize,
-    mut reached: RowID,
-    mut used: u64,
-    mut left: u64,
-) -> Prefix
+    from: Progress,
+) -> Result<Prefix, Refusal>
     requires fits { Fits l s.now }
     requires valid { Valid (shape_of l) l.pool s.now (height (shape_of l) s.now node.0) (entered node.0 ∷ []) }
-    requires first_value { (first ≡ out_of (shape_of l) l.pool s.now (height (shape_of l) s.now node.0) node.0) × (left ≡ 0) }
-    requires begun { Begun l s.now node.0 ids.now place used reached.0 }
-    ensures answer { named_of end.0 result.answer ≡ below_scan l s.now end node ids.now place reached }
+    requires first_value { first ≡ out_of (shape_of l) l.pool s.now (height (shape_of l) s.now node.0) node.0 }
+    requires begun { Begun l s.now node.0 ids.now from.place from.reached.0 }
+    ensures answer { prefix_of end.0 result ≡ below_scan l s.now end node ids.now from.place from.reached }
     ensures edge { Ending (shape_of l) l.pool s.now end.0 node.0 result }
 {
     let mut path = Path::rooted(node);
-    let mut nexts = [Limit::Open; 32];
+    let mut nexts = [None; 32];
     let mut firsts = [first; 32];
-    while place < ids.len() {
+    let mut named = from;
+    let mut used = from.place as u64;
+    let mut left = 0;
+    while named.place < ids.len() {
         let depth = path.depth;
         if depth == 0 {
-            return refused(Refusal::ListTooLong(place as u64));
+            return Err(Refusal::ListTooLong(named.place as u64));
         }
         let at = depth - 1;
         let top = path.positions[at];
@@ -80,44 +65,46 @@ fn scan_below(
             left = tree_tally::add(left, 1);
             continue;
         }
-        match turn::tested(l, s, top, firsts[at], nexts[at]) {
-            Turn::Bad(n) => return refused(Refusal::Unsound(n)),
-            Turn::Down(child, beyond, inner) => {
-                path.positions[at] = top.turned();
-                path.positions[depth] = Position::entered(child);
-                path.depth = depth + 1;
-                nexts[depth] = beyond;
-                firsts[depth] = inner;
-                match prune_leaf::scan_node(l, s, child, end, ids, place, reached) {
-                    Progress::Stopped(r) => return refused(r),
-                    Progress::On(p, c) => {
-                        used = (p - place) as u64;
-                        place = p;
-                        reached = c;
-                    }
-                }
-            }
-        }
+        let turned = turn::tested(l, s, top, firsts[at], nexts[at])?;
+        let child = turned.child;
+        path.positions[at] = top.turned();
+        path.positions[depth] = Position::entered(child);
+        path.depth = depth + 1;
+        nexts[depth] = turned.next;
+        firsts[depth] = turned.first;
+        let more = prune_leaf::scan_node(l, s, child, end, ids, named)?;
+        used = (more.place - named.place) as u64;
+        named = more;
     }
-    Prefix {
-        answer: prune_leaf::finish(end, place, reached),
+    let entries = prune_leaf::finish(end, named)?;
+    Ok(Prefix {
+        entries,
         path,
         used,
         left,
-    }
+    })
 }
 
 // The leaves from a root that passed its test, with the first of its child numbers out of range.
-pub fn scan_tree(l: Layout, s: &[u64], root: NodeNo, first: u64, end: RowID, ids: &[u64]) -> Prefix
+pub fn scan_tree(
+    l: Layout,
+    s: &[u64],
+    root: NodeNo,
+    first: u64,
+    end: RowID,
+    ids: &[u64],
+) -> Result<Prefix, Refusal>
     requires fits { Fits l s.now }
     requires passed_root { PassedRoot l s.now root.0 }
     requires first_value { first ≡ out_of (shape_of l) l.pool s.now (height (shape_of l) s.now root.0) root.0 }
     requires ids_nonzero { 0 < length ids.now }
-    ensures answer { named_of end.0 result.answer ≡ tree_scan l s.now end.0 root.0 ids.now }
+    ensures answer { prefix_of end.0 result ≡ tree_scan l s.now end.0 root.0 ids.now }
     ensures edge { Ending (shape_of l) l.pool s.now end.0 root.0 result }
 {
-    match prune_leaf::scan_node(l, s, root, end, ids, 0, RowID(0)) {
-        Progress::Stopped(r) => refused(r),
-        Progress::On(p, c) => scan_below(l, s, root, first, end, ids, p, c, p as u64, 0),
-    }
+    let none = Progress {
+        place: 0,
+        reached: RowID(0),
+    };
+    let named = prune_leaf::scan_node(l, s, root, end, ids, none)?;
+    scan_below(l, s, root, first, end, ids, named)
 }

@@ -15,15 +15,9 @@ use Rattle.model.specs.declared.path.Position.{Position}
 use Rattle.model.proofs.Words.{header_at}
 use Rattle.model.proofs.Writes.{copied-length, freed-length}
 use Rattle.law_prune.proofs.Trim.{trimmed-header, trimmed-node}
+use Rattle.node_write.proofs.Turns.{turn, stop}
 use Rattle.node_chain.specs.Chain.{listed}
 use Rattle.prune_boundary.specs.Trims.{trims_from, Apart, Trims}
-
-module _ {A : Type 0} (f : ℕ → A) (i n : ℕ) where
-  pub turn : i < n → f (n - i) ≡ f (suc (n - (i + 1)))
-  turn l = ap f (omega arith)
-
-  pub stop : n ≤ i → f (n - i) ≡ f 0
-  stop l = ap f (omega arith)
 
 -- the nodes after one that was trimmed can still be
 trims-kept : (C : Shape) (P : ℕ) (w v : List ℕ) (n : ℕ) → ((m : ℕ) → m ≢ n → count C w m ≡ count C v m) → (ts : List (ℕ × ℕ)) → Apart n ts → Trims C P w ts → Trims C P v ts

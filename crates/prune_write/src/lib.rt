@@ -18,6 +18,7 @@ use node_read::layout::Layout;
 use node_write::write;
 
 // Node n loses its first k entries; what is left starts at the end.
+#[tactic(auto, unfolding(model::specs::Prune::trimmed))]
 fn trim_node(l: Layout, s: &mut [u64], n: NodeNo, k: u64, end: RowID)
     requires fits { Fits l s.old }
     requires n_lt_pool { (n.0 < l.pool) × (k ≤ count (shape_of l) s.old n.0) × (count (shape_of l) s.old n.0 ≤ l.capacity) }
@@ -37,40 +38,29 @@ pub fn trim_all(l: Layout, s: &mut [u64], edge: Path, end: RowID)
     requires depth_bound { (edge.depth ≤ 32) × (length edge.positions ≡ 32) × Trims (shape_of l) l.pool s.old (trims_of edge) }
     ensures { s.new ≡ trim_all (shape_of l) s.old end.0 (trims_of edge) }
 {
-    let depth = edge.depth;
-    let mut i: usize = 0;
-    while i < depth {
-        let p = edge.positions[i];
-        let node = p.node;
-        trim_node(l, s, node, p.index, end);
-        i += 1;
+    for p in &edge.positions[..edge.depth] {
+        trim_node(l, s, p.node, p.index, end);
     }
 }
 
 // Nodes copied into the root, one after the other.
-pub fn copy_all(l: Layout, s: &mut [u64], root: NodeNo, nodes: [NodeNo; 32], k: usize)
+pub fn copy_all(l: Layout, s: &mut [u64], root: NodeNo, nodes: &[NodeNo])
     requires fits { Fits l s.old }
-    requires root_lt_pool { (root.0 < l.pool) × (k ≤ 32) × AllIn l.pool nodes k }
-    ensures { s.new ≡ copy_all (shape_of l) s.old root.0 (listed nodes 0 k) }
+    requires root_lt_pool { (root.0 < l.pool) × AllIn l.pool nodes.now (length nodes.now) }
+    ensures { s.new ≡ copy_all (shape_of l) s.old root.0 (listed nodes.now 0 (length nodes.now)) }
 {
-    let mut i: usize = 0;
-    while i < k {
-        let n = nodes[i];
-        node_copy::copy_node(l, s, n, root);
-        i += 1;
+    for n in nodes {
+        node_copy::copy_node(l, s, *n, root);
     }
 }
 
 // The same nodes freed, the deepest first.
-pub fn free_copied(l: Layout, s: &mut [u64], nodes: [NodeNo; 32], k: usize)
+pub fn free_copied(l: Layout, s: &mut [u64], nodes: &[NodeNo])
     requires fits { Fits l s.old }
-    requires k_bound { (k ≤ 32) × AllIn l.pool nodes k × (free_count s.old + k ≤ 65535) }
-    ensures { s.new ≡ free_all (shape_of l) s.old (reverse (listed nodes 0 k)) }
+    requires free_bound { AllIn l.pool nodes.now (length nodes.now) × (free_count s.old + length nodes.now ≤ 65535) }
+    ensures { s.new ≡ free_all (shape_of l) s.old (reverse (listed nodes.now 0 (length nodes.now))) }
 {
-    let mut i = k;
-    while 0 < i {
-        i -= 1;
-        let n = nodes[i];
-        node_chain::free_node(l, s, n);
+    for i in (0..nodes.len()).rev() {
+        node_chain::free_node(l, s, nodes[i]);
     }
 }

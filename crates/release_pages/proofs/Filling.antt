@@ -7,6 +7,7 @@ use native.Mathlib.Nat.{sub-zero}
 use lib.ListN.{length, set}
 use borrow.Author.Tests.{eq-eqb, ne_eqb}
 use Rattle.model.specs.Words.{Shape, fill, height, count, child}
+use Rattle.node_read.proofs.Asked.{leaf-height, branch-height}
 use Rattle.release_pages.specs.Pages.{pages_from, pages_at}
 
 -- The page ids of one node --------------------------------------------------------------------------------
@@ -33,10 +34,12 @@ module _ (C : Shape) (w : List ℕ) (n : ℕ) where
   fill_start l a k = rw sub-zero
 
   module _ (l : List ℕ) (a i k : ℕ) where
-    pub fill_more : i < k → fill l a (pages_from C w n i (k - i)) ≡ fill (set l a (child C w n i)) (a + 1) (pages_from C w n (i + 1) (k - (i + 1)))
+    pub fill_more : i < k → fill l (a + i) (pages_from C w n i (k - i)) ≡ fill (set l (a + i) (child C w n i)) (a + (i + 1)) (pages_from C w n (i + 1) (k - (i + 1)))
     unfolding fill pages_from
-    fill_more h = let e : k - i ≡ suc (k - (i + 1)) = omega arith in rw e
+    fill_more h = let e : k - i ≡ suc (k - (i + 1)) = omega arith in let s : a + (i + 1) ≡ a + i + 1 = omega arith in rw (e, s)
 
-    pub fill_done : k ≤ i → fill l a (pages_from C w n i (k - i)) ≡ l
+    pub fill_done : k ≤ i → fill l (a + i) (pages_from C w n i (k - i)) ≡ l
     unfolding fill pages_from
     fill_done h = let e : k - i ≡ 0 = omega arith in rw e
+
+pub ruleset filling = (leaf-pages, branch-pages, leaf-length, fill_start, fill_more, fill_done, leaf-height, branch-height)

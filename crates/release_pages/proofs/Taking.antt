@@ -11,7 +11,7 @@ use Rattle.model.specs.Paths.{stack, last_of, entered, rooted}
 use Rattle.model.specs.declared.path.Path.{Path}
 use Rattle.model.proofs.Fill.{fill-append, length-fill}
 use Rattle.tree_turn.specs.Left.{lowest, left, ValidPath}
-use Rattle.tree_turn.specs.declared.turn.Step.TheVariants.{Up, Down}
+use Rattle.std.specs.Prelude.{Some, None}
 use Rattle.tree_turn.specs.Turn.{stepping}
 use Rattle.tree_turn.proofs.Valid.{valid-path}
 use Rattle.tree_turn.proofs.Rest.{left-none}
@@ -62,7 +62,7 @@ module _ {C : Shape} {P : ℕ} {w L : List ℕ} {p : Path} {l : List ℕ} {a : �
 
   module _ (z : 0 < p.depth) where
     -- a node is left
-    module _ (e : Up ≡ stepping C w (last_of p).node.0 (last_of p).index) where
+    module _ (e : None ≡ stepping C w (last_of p).node.0 (last_of p).index) where
       found : pages_of C w (left false C P w p) ≡ pages_at C w (last_of p).node.0 ++ pages_of C w (left false C P w (popped p))
       unfolding pages_of
       found = ap (pages_of C w) (step-up (sure t.walk) z e).one
@@ -85,7 +85,7 @@ module _ {C : Shape} {P : ℕ} {w L : List ℕ} {p : Path} {l : List ℕ} {a : �
           }
 
     -- a child is entered
-    pub takes_in : {c : ℕ} → Down (record { 0 = c }) ≡ stepping C w (last_of p).node.0 (last_of p).index → Takes C P w L p (entered_path p c) l a
+    pub takes_in : {c : ℕ} → Some (record { 0 = c }) ≡ stepping C w (last_of p).node.0 (last_of p).index → Takes C P w L p (entered_path p c) l a
     unfolding pages_of
     takes_in e =
         let m = step_down (sure t.walk) z e in

@@ -11,12 +11,11 @@ ghost use Rattle.release_pages.specs.Releasable.{Releasable};
 
 use model::id::NodeNo;
 use model::path::{Path, Position};
-use node_read::header;
 use node_read::layout::Layout;
 use tree_turn::turn;
-use tree_turn::turn::Step;
 
 // The page ids of a leaf go into the list from place at on; the place after them. A branch has none.
+#[tactic(auto, unfolding(model::specs::Words::fill), using(crate::proofs::Filling::filling))]
 fn copy_leaf(l: Layout, s: &[u64], n: NodeNo, pages: &mut [u64], at: usize) -> usize
     requires fits { Fits l s.now }
     requires n_lt_pool { (n.0 < l.pool) × (count (shape_of l) s.now n.0 ≤ l.capacity) × (at + length (pages_at (shape_of l) s.now n.0) ≤ length pages.old) }
@@ -27,16 +26,10 @@ fn copy_leaf(l: Layout, s: &[u64], n: NodeNo, pages: &mut [u64], at: usize) -> u
     if !h.is_leaf() {
         return at;
     }
-    let count = h.count;
-    let mut place = at;
-    let mut i: u64 = 0;
-    while i < count {
-        let page = l.page(s, n, i);
-        pages[place] = page.0;
-        place += 1;
-        i += 1;
+    for i in 0..h.count {
+        pages[at + i as usize] = l.page(s, n, i).0;
     }
-    place
+    at + h.count as usize
 }
 
 // The page ids of a sound tree go into the list, left to right: those of a leaf as the walk leaves it.
@@ -52,12 +45,11 @@ pub fn copy_tree(l: Layout, s: &[u64], node: NodeNo, pages: &mut [u64])
         let at = depth - 1;
         let top = path.positions[at];
         match turn::untested(l, s, top) {
-            Step::Up => {
-                let node = top.node;
-                place = copy_leaf(l, s, node, pages, place);
+            None => {
+                place = copy_leaf(l, s, top.node, pages, place);
                 path.depth = at;
             }
-            Step::Down(child) => {
+            Some(child) => {
                 path.positions[at] = top.turned();
                 path.positions[depth] = Position::entered(child);
                 path.depth = depth + 1;

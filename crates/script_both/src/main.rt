@@ -4,7 +4,6 @@
 
 #![tactic(auto)]
 
-pub mod compare;
 pub mod single;
 
 ghost use Rattle.std.specs.Prelude.{◌+◌, ◌≤◌, length};
@@ -23,37 +22,17 @@ struct Tally {
     different: u64,
 }
 
-// The bytes of a listing of this length that fit.
-fn fitting(len: usize, room: usize) -> usize
-    ensures { (result ≤ room) × (result ≤ len) }
-{
-    if room < len {
-        return room;
-    }
-    len
-}
-
-fn one_if(yes: bool) -> u64
-    ensures { result ≤ 1 }
-{
-    if yes {
-        return 1;
-    }
-    0
-}
-
 // One prefix: the listings go into a and b.
 fn try_prefix(script: &[u8], a: &mut [u8], b: &mut [u8]) -> Tally
     ensures { (result.bad ≤ 1) × (result.different ≤ 1) }
 {
     let n = script::row_page_script(script, a);
     let m = single::list(script, b);
-    let k = fitting(n, a.len());
-    let l = fitting(m, b.len());
-    let same = n == m && compare::is_same(&a[0..k], &b[0..l]);
+    let a = &a[..n.min(a.len())];
+    let b = &b[..m.min(b.len())];
     Tally {
-        bad: one_if(compare::ends_with(&a[0..k], b"bad record\n")),
-        different: one_if(!same),
+        bad: u64::from(a.ends_with(b"bad record\n")),
+        different: u64::from(n != m || a != b),
     }
 }
 
@@ -62,12 +41,10 @@ fn try_prefixes(script: &[u8], a: &mut [u8], b: &mut [u8]) -> Tally
 {
     let mut bad: u64 = 0;
     let mut different: u64 = 0;
-    let mut k: usize = 0;
-    while k <= script.len() {
-        let t = try_prefix(&script[0..k], a, b);
+    for k in 0..=script.len() {
+        let t = try_prefix(&script[..k], a, b);
         bad += t.bad;
         different += t.different;
-        k += 1;
     }
     Tally { bad, different }
 }
@@ -77,15 +54,9 @@ fn try_prefixes(script: &[u8], a: &mut [u8], b: &mut [u8]) -> Tally
 fn is_right(script: &[u8], listing: &[u8], whole: usize, out: &mut [u8], len: usize) -> bool
     requires { len ≤ length out.old }
 {
-    let n = script::row_page_script(script, &mut out[0..len]);
-    if n != whole {
-        return false;
-    }
-    let k = fitting(listing.len(), len);
-    if !compare::is_same(&out[0..k], &listing[0..k]) {
-        return false;
-    }
-    compare::is_all(&out[k..], MARK)
+    let n = script::row_page_script(script, &mut out[..len]);
+    let k = listing.len().min(len);
+    n == whole && out[..k] == listing[..k] && out[k..].iter().all(|&byte| byte == MARK)
 }
 
 fn try_length(script: &[u8], listing: &[u8], whole: usize, len: usize) -> bool
@@ -100,10 +71,8 @@ fn try_lengths(script: &[u8], listing: &[u8], whole: usize, from: usize, to: usi
     requires { to ≤ 65537 }
 {
     let mut wrong: u64 = 0;
-    let mut len = from;
-    while len < to {
-        wrong += one_if(!try_length(script, listing, whole, len));
-        len += 1;
+    for len in from..to {
+        wrong += u64::from(!try_length(script, listing, whole, len));
     }
     wrong
 }
@@ -133,7 +102,7 @@ fn report_lengths(script: &[u8], listing: &[u8], whole: usize)
     print_count(b"lengths", n as u64 + 1);
     print_count(b"wrong", wrong);
     io::write_all(STDOUT_FILENO, listing);
-    let more = fitting(40, 65536 - n);
+    let more = (65536 - n).min(40);
     let wrong = try_lengths(script, listing, whole, n + 1, n + 1 + more);
     print_count(b"longer", more as u64);
     print_count(b"wrong", wrong);
@@ -144,25 +113,25 @@ fn report(script: &[u8], a: &mut [u8], b: &mut [u8])
 {
     report_prefixes(script, a, b);
     let whole = single::list(script, b);
-    let n = fitting(whole, b.len());
-    report_lengths(script, &b[0..n], whole);
+    let n = whole.min(b.len());
+    report_lengths(script, &b[..n], whole);
 }
 
 // Each script of the input, and how many bytes are left after the last.
 fn report_all(input: &[u8], a: &mut [u8], b: &mut [u8])
     requires { (length input.now ≤ 65536) × (length b.old ≤ 65536) }
 {
-    let mut at: usize = 0;
-    while 4 <= input.len() - at {
-        let len = script_records::read_u32(&input[at..], 0) as usize;
-        let from = at + 4;
-        if input.len() - from < len {
+    let mut rest = input;
+    while 4 <= rest.len() {
+        let len = script_records::read_u32(rest, 0) as usize;
+        if rest.len() - 4 < len {
             break;
         }
-        at = from + len;
-        report(&input[from..at], a, b);
+        let (script, after) = rest[4..].split_at(len);
+        report(script, a, b);
+        rest = after;
     }
-    print_count(b"left", (input.len() - at) as u64);
+    print_count(b"left", rest.len() as u64);
 }
 
 fn main() {
@@ -170,5 +139,5 @@ fn main() {
     let mut a = io::large_buffer();
     let mut b = io::large_buffer();
     let n = io::read_full(STDIN_FILENO, &mut input);
-    report_all(&input[0..n], &mut a, &mut b);
+    report_all(&input[..n], &mut a, &mut b);
 }

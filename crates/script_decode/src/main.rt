@@ -4,7 +4,6 @@
 #![tactic(auto)]
 
 use script_input::name;
-use script_records::{Head, Record};
 
 const STDOUT_FILENO: i32 = 1;
 
@@ -13,39 +12,26 @@ const STDERR_FILENO: i32 = 2;
 // The line of a good record, whatever its kind: a name, and all words of the body. The longest, of a prune with 511 words of
 // 20 digits, has 10,737 bytes.
 fn write_line(body: &[u8]) {
-    let len = body.len();
-    if len < 2 {
+    if body.len() < 2 {
         return;
     }
     let mut out = [0u8; 10737];
     let mut place = name::put_name(&mut out, 0, script_records::read_u16(body, 0));
-    let mut at: usize = 2;
-    while 8 <= len - at {
-        place = script_text::put_number(&mut out, place, script_records::read_u64(body, at));
-        at += 8;
+    for word in body[2..].chunks_exact(8) {
+        place = script_text::put_number(&mut out, place, script_records::read_u64(word, 0));
     }
     place = script_text::put_byte(&mut out, place, b'\n');
-    if place <= 10737 {
-        io::write_all(STDOUT_FILENO, &out[0..place]);
+    if place <= out.len() {
+        io::write_all(STDOUT_FILENO, &out[..place]);
     }
 }
 
-// Writes the line of the record that these bytes are. Whether it is a good one.
-fn take_record(bytes: &[u8]) -> bool {
-    match script_records::read_head(bytes) {
-        Head::Bad => false,
-        Head::Whole(len) => {
-            let end = 4 + len;
-            let body = &bytes[4..end];
-            match script_records::read_body(body) {
-                Record::Bad => false,
-                _ => {
-                    write_line(body);
-                    true
-                }
-            }
-        }
-    }
+// What follows the length of the record that these bytes are; none where it is bad.
+fn good_body(bytes: &[u8]) -> Option<&[u8]> {
+    let len = script_records::read_head(bytes)?;
+    let body = &bytes[4..4 + len];
+    script_records::read_body(body)?;
+    Some(body)
 }
 
 // A bad record: its number. A program has no exit status, so a line follows that script_encode refuses: what was written up
@@ -64,22 +50,20 @@ fn next_record(number: u64) -> bool {
     if n == 0 {
         return false;
     }
-    let good = take_record(&bytes[0..n]);
-    if !good {
+    let Some(body) = good_body(&bytes[..n]) else {
         fail(number);
-    }
-    good
+        return false;
+    };
+    write_line(body);
+    true
 }
 
 // A proved loop has to end, and nothing says that the input does: the records are counted up to a number that no run
 // reaches.
 fn main() {
-    let mut number: u64 = 1;
-    while number < u64::MAX {
-        let goes = next_record(number);
-        if !goes {
+    for number in 1..u64::MAX {
+        if !next_record(number) {
             return;
         }
-        number += 1;
     }
 }

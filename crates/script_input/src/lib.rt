@@ -12,7 +12,6 @@ const STDIN_FILENO: i32 = 0;
 
 // How many bytes of a record are read after its first four: as many as they say, and none where they say more than 4,096.
 // Such a record is bad by its length alone.
-#[tactic(auto, using(crate::proofs::Lengths::too_long, crate::proofs::Lengths::not_too_long))]
 pub fn announced(bytes: &[u8]) -> usize
     requires { 4 ≤ length bytes.now }
     ensures is { result ≡ pick (ltb 4096 (body_length bytes.now)) 0 (body_length bytes.now) }

@@ -1,21 +1,30 @@
 // The names of the calls in a script's text, by the kind of their records.
 
-ghost use Rattle.std.specs.Prelude.{◌+◌, ◌≤◌};
+ghost use Rattle.std.specs.Prelude.{◌≡◌, ◌+◌, ◌≤◌, length};
 ghost use Rattle.script_text.specs.Lines.{Puts};
 ghost use Rattle.script_input.specs.Names.{name_of};
 
-// Nothing for another kind. The place after the name.
+// Nothing for another kind.
+#[tactic(auto, unfolding(crate::specs::Names::name_of))]
+fn name(kind: u64) -> &'static [u8]
+    ensures is { result.now ≡ name_of kind }
+    ensures few { length result.now ≤ 7 }
+{
+    match kind {
+        1 => b"create",
+        2 => b"append",
+        3 => b"find",
+        4 => b"prune",
+        5 => b"walk",
+        6 => b"release",
+        _ => b"",
+    }
+}
+
+// The place after the name.
 pub fn put_name(out: &mut [u8], at: usize, kind: u64) -> usize
     ensures is { Puts out.old at (name_of kind) out.new result }
     ensures few { result ≤ at + 7 }
 {
-    match kind {
-        1 => script_text::put_bytes(out, at, b"create"),
-        2 => script_text::put_bytes(out, at, b"append"),
-        3 => script_text::put_bytes(out, at, b"find"),
-        4 => script_text::put_bytes(out, at, b"prune"),
-        5 => script_text::put_bytes(out, at, b"walk"),
-        6 => script_text::put_bytes(out, at, b"release"),
-        _ => at,
-    }
+    script_text::put_bytes(out, at, name(kind))
 }

@@ -2,99 +2,68 @@
 
 #![tactic(auto)]
 
-ghost use Rattle.std.specs.Prelude.{◌≡◌, ◌≤◌, ◌<◌, false, IsTrue, length, take};
-ghost use Rattle.std.specs.Io.KnownBytes.{Appends, Consumes, IsAtEnd};
+ghost use Rattle.std.specs.Prelude.{OnOk};
+ghost use Rattle.std.specs.Io.{ReadsAtMost};
+ghost use Rattle.std.specs.Io.KnownBytes.{Appends, ReadConsumes};
 
-use std::io::ErrorKind;
+use std::io::{Error, ErrorKind};
 use std::time::{Clock, Duration};
 use std::{io, thread};
 
-// How many bytes a read gave, none at the end of the input; or that it failed.
-#[derive(Clone, Copy)]
-pub struct Read {
-    pub count: usize,
-    pub failed: bool,
-}
-
-// Waits a millisecond.
-fn pause(clock: &impl Clock) {
-    thread::sleep(clock, Duration::from_millis(1));
-}
-
-// Whether the call that just failed is to be made again. A descriptor that does not block is asked a thousand times a second.
-fn again(clock: &impl Clock, error: &io::Error) -> bool {
+// Whether the call that just failed is to be made again: if not, its error. A descriptor that does not block is asked a
+// thousand times a second.
+fn again(clock: &impl Clock, error: Error) -> io::Result<()> {
     match error.kind() {
-        ErrorKind::Interrupted => true,
+        ErrorKind::Interrupted => Ok(()),
         ErrorKind::WouldBlock => {
-            pause(clock);
-            true
+            thread::sleep(clock, Duration::from_millis(1));
+            Ok(())
         }
-        _ => false,
+        _ => Err(error),
     }
 }
 
-// The bytes that are there, at the start of buf: waits for the first, not for more. A proved loop has to end: the calls are
-// counted down from a number that no run uses up.
-pub fn read_some<R: io::Read>(clock: &impl Clock, input: &mut R, buf: &mut [u8]) -> Read
-    ensures in_bounds { result.count ≤ length buf.new }
-    ensures bytes { Consumes (R.remaining input.old) (R.remaining input.new) (take result.count buf.new) }
-    ensures end { result.failed ≡ false → result.count ≡ 0 → 0 < length buf.new → IsAtEnd (R.remaining input.new) }
+// The bytes that are there, at the start of buf: waits for the first, not for more. How many, none at the end of the input.
+// A proved loop has to end: the calls are counted up to a number that no run reaches.
+pub fn read_some<R: io::Read>(
+    clock: &impl Clock,
+    input: &mut R,
+    buf: &mut [u8],
+) -> io::Result<usize>
+    ensures in_bounds { ReadsAtMost result buf.new }
+    ensures bytes { ReadConsumes (R.remaining input.old) (R.remaining input.new) result buf.new }
 {
-    let mut calls = u64::MAX;
-    while 0 < calls {
+    for _ in 0..u64::MAX {
         match input.read(buf) {
-            Ok(count) => {
-                return Read {
-                    count,
-                    failed: false,
-                };
-            }
-            Err(error) => {
-                if !again(clock, &error) {
-                    break;
-                }
-            }
+            Ok(count) => return Ok(count),
+            Err(error) => again(clock, error)?,
         }
-        calls -= 1;
     }
-    Read {
-        count: 0,
-        failed: true,
-    }
+    Err(Error::from(ErrorKind::TimedOut))
 }
 
-// All of buf, or none after the first write that fails. Whether all of it is written.
-pub fn write_whole<W: io::Write>(clock: &impl Clock, output: &mut W, buf: &[u8]) -> bool
-    ensures { IsTrue result → Appends (W.contents output.old) (W.contents output.new) buf.now }
+// All of buf, or no more after the first write that fails.
+pub fn write_whole<W: io::Write>(clock: &impl Clock, output: &mut W, buf: &[u8]) -> io::Result<()>
+    ensures { OnOk result (Appends (W.contents output.old) (W.contents output.new) buf.now) }
 {
-    let mut done: usize = 0;
-    let mut calls = u64::MAX;
-    while done < buf.len() {
-        match output.write(&buf[done..]) {
-            Ok(0) => {
-                return false;
-            }
-            Ok(put) => {
-                done += put;
-            }
-            Err(error) => {
-                if calls == 0 {
-                    return false;
-                }
-                if !again(clock, &error) {
-                    return false;
-                }
-                calls -= 1;
-            }
+    let mut rest = buf;
+    for _ in 0..u64::MAX {
+        if rest.is_empty() {
+            return Ok(());
+        }
+        match output.write(rest) {
+            Ok(0) => return Err(Error::from(ErrorKind::WriteZero)),
+            Ok(count) => rest = &rest[count..],
+            Err(error) => again(clock, error)?,
         }
     }
-    true
+    Err(Error::from(ErrorKind::TimedOut))
 }
 
 #[cfg(test)]
 mod tests {
     use super::*;
-    use std::io::{Error, Result};
+    use std::io::Result;
 
     // A signal at the first call, not ready at the second; then a byte a call, or a failure.
     #[derive(Drop)]
@@ -149,8 +118,7 @@ mod tests {
         };
         let mut buf = [0u8; 4];
         let got = read_some(&rt, &mut input, &mut buf);
-        assert_eq!(rt; got.count, 1);
-        assert!(rt; !got.failed);
+        assert_eq!(rt; got.unwrap_or(0), 1);
         assert_eq!(rt; buf[0], b'x');
         assert_eq!(rt; input.calls, 3);
     }
@@ -163,8 +131,7 @@ mod tests {
         };
         let mut buf = [0u8; 4];
         let got = read_some(&rt, &mut input, &mut buf);
-        assert_eq!(rt; got.count, 0);
-        assert!(rt; got.failed);
+        assert!(rt; got.is_err());
         assert_eq!(rt; input.calls, 3);
     }
 
@@ -174,7 +141,7 @@ mod tests {
             calls: 0,
             fails: false,
         };
-        assert!(rt; write_whole(&rt, &mut output, b"four"));
+        assert!(rt; write_whole(&rt, &mut output, b"four").is_ok());
         assert_eq!(rt; output.calls, 6);
     }
 
@@ -184,7 +151,7 @@ mod tests {
             calls: 0,
             fails: true,
         };
-        assert!(rt; !write_whole(&rt, &mut output, b"four"));
+        assert!(rt; write_whole(&rt, &mut output, b"four").is_err());
         assert_eq!(rt; output.calls, 3);
     }
 }

@@ -8,14 +8,14 @@ use lib.ListN.{length, get_or, set, take, drop, length-drop}
 use lib.Seq.{take-suc, take-suc-set, take_all, get_or-drop}
 use Rattle.script_records.specs.Records.{little}
 use Rattle.script_records.specs.Read.{body_words, Copied}
-use Rattle.script_records.proofs.Little.{length-words, word_at}
+use Rattle.script_records.proofs.Little.{length_words, word_at}
 
 module _ (body : List ℕ) where
   abbrev pub ids : List ℕ
   ids = drop 2 (body_words body)
 
   pub length_ids : length ids ≡ (length body - 2) / 8 - 2
-  length_ids = length-drop 2 (body_words body) ∙ ap (λ (n : ℕ). n - 2) (length-words ((length body - 2) / 8) (drop 2 body))
+  length_ids = length-drop 2 (body_words body) ∙ ap (λ (n : ℕ). n - 2) (length_words ((length body - 2) / 8) (drop 2 body))
 
   pub one_more : (l : List ℕ) (i r : ℕ) → 26 + 8 * i ≤ length body → i < length l → r ≡ little (take 8 (drop (2 + 8 * (2 + i)) body)) → take i l ≡ take i ids → take (i + 1) (set l i r) ≡ take (i + 1) ids
   one_more l i r h t e is =

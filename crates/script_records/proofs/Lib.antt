@@ -1,4 +1,3 @@
 pub mod Little
-pub mod Asked
 pub mod Ids
 pub mod Heads

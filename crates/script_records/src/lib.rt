@@ -2,8 +2,8 @@
 
 #![tactic(auto)]
 
-ghost use Rattle.std.specs.Prelude.{◌≡◌, ◌≢◌, ◌+◌, ◌*◌, ◌-◌, ◌/◌, ◌≤◌, ◌<◌, drop, length, take};
-ghost use Rattle.script_records.specs.Records.{asked, request_of, little, words_in};
+ghost use Rattle.std.specs.Prelude.{◌≡◌, ◌+◌, ◌*◌, ◌≤◌, ◌<◌, IfSome, drop, length, take};
+ghost use Rattle.script_records.specs.Records.{asked, little};
 ghost use Rattle.script_records.specs.Read.{Copied, Reads, head_of, meant};
 
 // What a record asks for. The page ids of a prune stay in its body.
@@ -15,48 +15,28 @@ pub enum Record {
     Prune(u64, u64),
     Walk(u64),
     Release(u64),
-    Bad,
 }
 
-fn wide(x: u8) -> u64
-    ensures { (result ≡ x) × (result < 256) }
-{
-    x as u64
-}
-
-// One, two, four and eight bytes.
-fn read_u8(b: &[u8], at: usize) -> u64
-    requires { at + 1 ≤ length b.now }
-    ensures { Reads b.now at 1 result }
-{
-    wide(b[at])
-}
-
+// The number in two, four or eight bytes from a place on.
 pub fn read_u16(b: &[u8], at: usize) -> u64
     requires { at + 2 ≤ length b.now }
     ensures { Reads b.now at 2 result }
 {
-    let low = read_u8(b, at);
-    let high = read_u8(b, at + 1);
-    low + 256 * high
+    u16::from_le_bytes(b[at..at + 2].try_into().unwrap()) as u64
 }
 
 pub fn read_u32(b: &[u8], at: usize) -> u64
     requires { at + 4 ≤ length b.now }
     ensures { Reads b.now at 4 result }
 {
-    let low = read_u16(b, at);
-    let high = read_u16(b, at + 2);
-    low + 65536 * high
+    u32::from_le_bytes(b[at..at + 4].try_into().unwrap()) as u64
 }
 
 pub fn read_u64(b: &[u8], at: usize) -> u64
     requires { at + 8 ≤ length b.now }
     ensures { Reads b.now at 8 result }
 {
-    let low = read_u32(b, at);
-    let high = read_u32(b, at + 4);
-    low + 4294967296 * high
+    u64::from_le_bytes(b[at..at + 8].try_into().unwrap())
 }
 
 // Word i of a body.
@@ -67,130 +47,71 @@ fn read_word(body: &[u8], i: usize) -> u64
     read_u64(body, 2 + 8 * i)
 }
 
-fn create_of(body: &[u8], words: usize) -> Record
-    requires { length body.now ≡ 2 + 8 * words }
-    ensures { meant body.now result ≡ request_of 1 (words_in words (drop 2 body.now)) }
-{
-    if words != 3 {
-        return Record::Bad;
-    }
-    let capacity = read_word(body, 0);
-    let nodes = read_word(body, 1);
-    let start = read_word(body, 2);
-    Record::Create(capacity, nodes, start)
-}
-
-fn append_of(body: &[u8], words: usize) -> Record
-    requires { length body.now ≡ 2 + 8 * words }
-    ensures { meant body.now result ≡ request_of 2 (words_in words (drop 2 body.now)) }
-{
-    if words != 2 {
-        return Record::Bad;
-    }
-    let count = read_word(body, 0);
-    let page = read_word(body, 1);
-    Record::Append(count, page)
-}
-
-fn prune_of(body: &[u8], words: usize) -> Record
-    requires { length body.now ≡ 2 + 8 * words }
-    ensures { meant body.now result ≡ request_of 4 (words_in words (drop 2 body.now)) }
-{
-    if words < 2 {
-        return Record::Bad;
-    }
-    let start = read_word(body, 0);
-    let end = read_word(body, 1);
-    Record::Prune(start, end)
-}
-
-// The kinds of one word.
-fn of_one_word(body: &[u8], kind: u64, words: usize) -> Record
-    requires body_len { length body.now ≡ 2 + 8 * words }
-    requires kind_nonzero { (kind ≢ 1) × (kind ≢ 2) × (kind ≢ 4) }
-    ensures { meant body.now result ≡ request_of kind (words_in words (drop 2 body.now)) }
-{
-    if words != 1 {
-        return Record::Bad;
-    }
-    let word = read_word(body, 0);
-    if kind == 3 {
-        return Record::Find(word);
-    }
-    if kind == 5 {
-        return Record::Walk(word);
-    }
-    if kind == 6 {
-        return Record::Release(word);
-    }
-    Record::Bad
-}
-
-fn of_kind(body: &[u8], kind: u64, words: usize) -> Record
-    requires { length body.now ≡ 2 + 8 * words }
-    ensures { meant body.now result ≡ request_of kind (words_in words (drop 2 body.now)) }
-{
-    if kind == 1 {
-        return create_of(body, words);
-    }
-    if kind == 2 {
-        return append_of(body, words);
-    }
-    if kind == 4 {
-        return prune_of(body, words);
-    }
-    of_one_word(body, kind, words)
-}
-
-// What follows a record's length.
-pub fn read_body(body: &[u8]) -> Record
+// What follows a record's length, where it is of a kind and has as many words as that takes.
+#[tactic(auto, unfolding(crate::specs::Records::asked, crate::specs::Records::request_of), using(crate::proofs::Little::length_words, crate::proofs::Little::word_at))]
+pub fn read_body(body: &[u8]) -> Option<Record>
     ensures { meant body.now result ≡ asked body.now }
 {
     let len = body.len();
     if len < 2 {
-        return Record::Bad;
+        return None;
     }
     if (len - 2) % 8 != 0 {
-        return Record::Bad;
+        return None;
     }
-    let kind = read_u16(body, 0);
-    of_kind(body, kind, (len - 2) / 8)
+    match (read_u16(body, 0), (len - 2) / 8) {
+        (1, 3) => {
+            let capacity = read_word(body, 0);
+            let nodes = read_word(body, 1);
+            let start = read_word(body, 2);
+            Some(Record::Create(capacity, nodes, start))
+        }
+        (2, 2) => {
+            let count = read_word(body, 0);
+            let page = read_word(body, 1);
+            Some(Record::Append(count, page))
+        }
+        (3, 1) => Some(Record::Find(read_word(body, 0))),
+        (4, 2..) => {
+            let start = read_word(body, 0);
+            let end = read_word(body, 1);
+            Some(Record::Prune(start, end))
+        }
+        (5, 1) => Some(Record::Walk(read_word(body, 0))),
+        (6, 1) => Some(Record::Release(read_word(body, 0))),
+        _ => None,
+    }
 }
 
-// The length that bytes begin with: of a whole record, or not.
-#[derive(Clone, Copy)]
-pub enum Head {
-    Whole(usize),
-    Bad,
-}
-
-pub fn read_head(bytes: &[u8]) -> Head
-    ensures { result ≡ head_of bytes.now }
+// The length that bytes begin with, where they have the whole record.
+#[tactic(auto, unfolding(crate::specs::Records::whole, crate::specs::Read::head_of))]
+pub fn read_head(bytes: &[u8]) -> Option<usize>
+    ensures is { result ≡ head_of bytes.now }
+    ensures fits { IfSome result (λ n. (n ≤ 4096) × (4 + n ≤ length bytes.now)) }
 {
     if bytes.len() < 4 {
-        return Head::Bad;
+        return None;
     }
     let n = read_u32(bytes, 0);
     if 4096 < n {
-        return Head::Bad;
+        return None;
     }
     let len = n as usize;
     if bytes.len() < 4 + len {
-        return Head::Bad;
+        return None;
     }
-    Head::Whole(len)
+    Some(len)
 }
 
 // The words of a body after the first two go into a list; how many there are.
+#[tactic(auto, using(crate::proofs::Ids::one_more, crate::proofs::Ids::all))]
 pub fn copy_ids(body: &[u8], ids: &mut [u64]) -> usize
     requires { (length body.now ≤ 4096) × (512 ≤ length ids.old) }
     ensures { Copied body.now ids.new result }
 {
-    let len = body.len();
-    let mut i: usize = 0;
-    while 26 + 8 * i <= len {
+    let n = body.len().saturating_sub(18) / 8;
+    for i in 0..n {
         ids[i] = read_word(body, 2 + i);
-        i += 1;
     }
-    i
+    n
 }

@@ -3,12 +3,9 @@
 
 #![tactic(auto)]
 
-ghost use Rattle.std.specs.Prelude.{◌≡◌, ◌≤◌, length};
+ghost use Rattle.std.specs.Prelude.{◌≤◌, IfSome, length};
 
-use script_block;
 use script_block::Block;
-use script_io;
-use script_turn;
 use std::io::{Read, Write};
 use std::time::Clock;
 
@@ -19,13 +16,12 @@ struct Input {
     is_last: bool,
 }
 
-// The words in use, where the bytes lie that were read and not taken, and whether the script goes on.
+// The words in use, and where the bytes lie that were read and not taken.
 #[derive(Clone, Copy)]
 struct State {
     used: usize,
     at: usize,
     end: usize,
-    goes: bool,
 }
 
 // The records that are known in these bytes, their lines written. A write that fails ends the script.
@@ -41,17 +37,11 @@ fn run_known(
     ensures { (result.used ≤ length words.new) × (result.taken ≤ length bytes.now) }
 {
     let b = script_block::run_block(words, used, bytes, out);
-    let at = b.at;
-    let written = script_io::write_whole(clock, output, &out[0..at]);
-    if !written {
-        return Block {
-            used: b.used,
-            taken: b.taken,
-            at,
-            goes: false,
-        };
+    let written = script_io::write_whole(clock, output, &out[..b.at]);
+    Block {
+        goes: b.goes && written.is_ok(),
+        ..b
     }
-    b
 }
 
 // More bytes after those that are left. An input that fails is one that is cut in its next record.
@@ -66,22 +56,19 @@ fn read_more(
     ensures { result.end ≤ length bytes.new }
 {
     let left = script_block::move_front(bytes, at, end);
-    let got = script_io::read_some(clock, input, &mut bytes[left..]);
-    if 0 < got.count {
-        return Input {
-            end: left + got.count,
-            is_last: false,
-        };
-    }
-    if got.failed && left == 0 {
-        return Input {
-            end: 1,
+    match script_io::read_some(clock, input, &mut bytes[left..]) {
+        Ok(0) => Input {
+            end: left,
             is_last: true,
-        };
-    }
-    Input {
-        end: left,
-        is_last: true,
+        },
+        Ok(count) => Input {
+            end: left + count,
+            is_last: false,
+        },
+        Err(_) => Input {
+            end: left.max(1),
+            is_last: true,
+        },
     }
 }
 
@@ -98,11 +85,10 @@ fn finish(
     requires in_bounds_2 { 65536 ≤ length out.old }
 {
     let t = script_turn::turn_step(words, used, bytes, out);
-    let len = t.at;
-    script_io::write_whole(clock, output, &out[0..len]);
+    let _ = script_io::write_whole(clock, output, &out[..t.at]);
 }
 
-// The known records of the bytes that were read; where there is none, more bytes.
+// The known records of the bytes that were read; where there is none, more bytes. None at the end of the script.
 fn turn(
     clock: &impl Clock,
     input: &mut impl Read,
@@ -111,52 +97,36 @@ fn turn(
     state: State,
     bytes: &mut [u8],
     out: &mut [u8],
-) -> State
+) -> Option<State>
     requires in_bounds { (5 ≤ length words.old) × (length words.old ≤ 4096) × (state.used ≤ length words.old) }
     requires at_le_end { (state.at ≤ state.end) × (state.end ≤ length bytes.old) × (1 ≤ length bytes.old) × (65536 ≤ length out.old) }
-    ensures { (result.used ≤ length words.new) × (result.at ≤ result.end) × (result.end ≤ length bytes.new) }
+    ensures { IfSome result (λ s. (s.used ≤ length words.new) × (s.at ≤ s.end) × (s.end ≤ length bytes.new)) }
 {
-    let at = state.at;
-    let end = state.end;
-    let b = run_known(clock, output, words, state.used, &bytes[at..end], out);
-    let used = b.used;
+    let State { used, at, end } = state;
+    let b = run_known(clock, output, words, used, &bytes[at..end], out);
     if !b.goes {
-        return State {
-            used,
-            at,
-            end,
-            goes: false,
-        };
+        return None;
     }
     if 0 < b.taken {
-        return State {
-            used,
+        return Some(State {
+            used: b.used,
             at: at + b.taken,
             end,
-            goes: true,
-        };
+        });
     }
     let more = read_more(clock, input, bytes, at, end);
-    let last = more.end;
     if more.is_last {
-        finish(clock, output, words, used, &bytes[0..last], out);
-        return State {
-            used,
-            at: 0,
-            end: last,
-            goes: false,
-        };
+        finish(clock, output, words, b.used, &bytes[..more.end], out);
+        return None;
     }
-    State {
-        used,
+    Some(State {
+        used: b.used,
         at: 0,
-        end: last,
-        goes: true,
-    }
+        end: more.end,
+    })
 }
 
-// A proved loop has to end, and nothing says that the input does: the turns are counted down from a number that no run
-// uses up.
+// A proved loop has to end, and nothing says that the input does: the turns are counted up to a number that no run reaches.
 fn run(
     clock: &impl Clock,
     input: &mut impl Read,
@@ -172,15 +142,12 @@ fn run(
         used: words.len(),
         at: 0,
         end: 0,
-        goes: true,
     };
-    let mut turns = u64::MAX;
-    while 0 < turns {
-        state = turn(clock, input, output, words, state, bytes, out);
-        if !state.goes {
-            return;
+    for _ in 0..u64::MAX {
+        match turn(clock, input, output, words, state, bytes, out) {
+            Some(next) => state = next,
+            None => return,
         }
-        turns -= 1;
     }
 }
 

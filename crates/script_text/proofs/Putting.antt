@@ -37,7 +37,7 @@ joins {o} {o₁} {o₂} {at} {r₁} {r₂} {xs} {ys} h p q =
       place = omega (arith, p.place, q.place, length-append xs ys);
     }
 
--- one byte: in place; past the end; past the end at the largest place
+-- one byte: in place; past the end
 pub one_in : (o : List ℕ) (at b : ℕ) → at + 1 < 2 ^ 64 → Puts o at (b ∷ []) (set o at b) (at + 1)
 unfolding fill
 one_in o at b h = record { is = refl; place = omega arith }
@@ -66,6 +66,6 @@ pub number_more : {o o₁ o₂ : List ℕ} {at r₁ r₂ : ℕ} (vs : List ℕ) 
 number_more vs i h t p q =
     rw (add-one i, take-suc vs i 0 t, numbers-append (take i vs) (get_or vs i 0 ∷ []), number-alone (get_or vs i 0)) (joins h p q)
 
-pub line-put : {o o₁ o₂ o₃ : List ℕ} {at r₁ r₂ r₃ : ℕ} (word vs : List ℕ) → length o < 2 ^ 64 → Puts o at word o₁ r₁ → Puts o₁ r₁ (numbers vs) o₂ r₂ → Puts o₂ r₂ (newline ∷ []) o₃ r₃ → Puts o at (line word vs) o₃ r₃
+pub line_put : {o o₁ o₂ o₃ : List ℕ} {at r₁ r₂ r₃ : ℕ} (word vs : List ℕ) → length o < 2 ^ 64 → Puts o at word o₁ r₁ → Puts o₁ r₁ (numbers vs) o₂ r₂ → Puts o₂ r₂ (newline ∷ []) o₃ r₃ → Puts o at (line word vs) o₃ r₃
 unfolding line
-line-put word vs h p q s = joins h p (joins (omega (arith, same p)) q s)
+line_put word vs h p q s = joins h p (joins (omega (arith, same p)) q s)

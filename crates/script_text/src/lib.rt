@@ -8,27 +8,23 @@ ghost use Rattle.model.specs.Words.{fill};
 ghost use Rattle.script_text.specs.Lines.{Puts, decimal, line, numbers, newline, space};
 
 // One byte.
+#[tactic(auto, using(crate::proofs::Putting::one_in, crate::proofs::Putting::one_out))]
 pub fn put_byte(out: &mut [u8], at: usize, byte: u8) -> usize
     ensures { Puts out.old at (byte ∷ []) out.new result }
 {
     if at < out.len() {
         out[at] = byte;
-        return at + 1;
     }
-    if at == usize::MAX {
-        return at;
-    }
-    at + 1
+    at.saturating_add(1)
 }
 
+#[tactic(auto, using(crate::proofs::Putting::nothing))]
 pub fn put_bytes(out: &mut [u8], at: usize, bytes: &[u8]) -> usize
     ensures { Puts out.old at bytes.now out.new result }
 {
     let mut place = at;
-    let mut i: usize = 0;
-    while i < bytes.len() {
-        place = put_byte(out, place, bytes[i]);
-        i += 1;
+    for &byte in bytes {
+        place = put_byte(out, place, byte);
     }
     place
 }
@@ -51,14 +47,13 @@ pub fn put_number(out: &mut [u8], at: usize, n: u64) -> usize
 }
 
 // Each of these numbers after a space.
+#[tactic(auto, using(crate::proofs::Putting::nothing), unfolding(crate::specs::Lines::numbers))]
 pub fn put_numbers(out: &mut [u8], at: usize, list: &[u64]) -> usize
     ensures { Puts out.old at (numbers list.now) out.new result }
 {
     let mut place = at;
-    let mut i: usize = 0;
-    while i < list.len() {
-        place = put_number(out, place, list[i]);
-        i += 1;
+    for &n in list {
+        place = put_number(out, place, n);
     }
     place
 }
@@ -76,13 +71,11 @@ pub fn put_line_with(out: &mut [u8], at: usize, word: &[u8], list: &[u64]) -> us
 pub fn put_line(out: &mut [u8], at: usize, word: &[u8]) -> usize
     ensures { Puts out.old at (line word.now []) out.new result }
 {
-    let place = put_bytes(out, at, word);
-    put_byte(out, place, b'\n')
+    put_line_with(out, at, word, &[])
 }
 
 pub fn put_line1(out: &mut [u8], at: usize, word: &[u8], a: u64) -> usize
     ensures { Puts out.old at (line word.now (a ∷ [])) out.new result }
 {
-    let list = [a];
-    put_line_with(out, at, word, &list)
+    put_line_with(out, at, word, &[a])
 }

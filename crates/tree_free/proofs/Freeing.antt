@@ -21,8 +21,8 @@ use Rattle.model.proofs.Writes.{occ_cons, freed-length, freed-keeps, freed-count
 use Rattle.law_formed.specs.Visits.{clean, lefts, enters}
 use Rattle.tree_turn.specs.Left.{left, ValidPath, on_path}
 use Rattle.tree_turn.specs.Turn.{stepping}
-use Rattle.tree_turn.specs.declared.turn.Step.{Step}
-use Rattle.tree_turn.specs.declared.turn.Step.TheVariants.{Up, Down}
+use Rattle.std.specs.Prelude.{Option, Some, None}
+use Rattle.model.specs.declared.id.NodeNo.{NodeNo}
 use Rattle.tree_turn.proofs.Valid.{valid-top}
 use Rattle.tree_turn.proofs.Rest.{left-none}
 use Rattle.tree_turn.proofs.InPlace.{popped, entered_path, entered-trail, entered-length}
@@ -94,7 +94,7 @@ module _ {C : Shape} {P : ℕ} {w W : List ℕ} {k j : ℕ} {s : List ℕ} {p : 
     pub last_in_lem : ((last_of p).node.0 < P) × (count C s (last_of p).node.0 ≤ C.cap)
     last_in_lem = let t = valid-top C P w p some_depth f.valid in (t.inside, omega (arith, t.narrow, same-last 1 (omega arith)))
 
-    pub same_step : (x : Step) → x ≡ stepping C s (last_of p).node.0 (last_of p).index → x ≡ stepping C w (last_of p).node.0 (last_of p).index
+    same_step : (x : Option NodeNo) → x ≡ stepping C s (last_of p).node.0 (last_of p).index → x ≡ stepping C w (last_of p).node.0 (last_of p).index
     same_step x e = e ∙ sym (step_same C w s (last_of p).node.0 (last_of p).index same-last (valid-top C P w p some_depth f.valid).narrow)
 
     -- the next visit is no unsound node
@@ -110,12 +110,15 @@ module _ {C : Shape} {P : ℕ} {w W : List ℕ} {k j : ℕ} {s : List ℕ} {p : 
         }
 
     -- the last node is left, and freed
-    module _ (e : Up ≡ stepping C w (last_of p).node.0 (last_of p).index) where
+    module _ (g : None ≡ stepping C s (last_of p).node.0 (last_of p).index) where
+      up : None ≡ stepping C w (last_of p).node.0 (last_of p).index
+      up = same_step None g
+
       pub goes-out : Freeable C P w W k (j + 1) (freed C s (last_of p).node.0) (popped p)
       unfolding clean lefts enters free_all
       goes-out =
           let n = (last_of p).node.0 in
-          let a = step-up sure some_depth e in
+          let a = step-up sure some_depth up in
           let q = first-seen f.seen f.after (left false C P w (popped p)) (Leave n) (sym f.parts ∙ a.one) (omega (arith, f.many)) in
           let more = q.0 in
           let long-is : length (lefts f.seen) ≡ suc (length (lefts more)) = ap (λ (vs : List Visit). length (lefts vs)) q.1 in
@@ -138,24 +141,27 @@ module _ {C : Shape} {P : ℕ} {w W : List ℕ} {k j : ℕ} {s : List ℕ} {p : 
           }
 
       pub less-out : length (left false C P w (popped p)) < length (left false C P w p)
-      less-out = falls (step-up sure some_depth e)
+      less-out = falls (step-up sure some_depth up)
 
     -- a child is entered
-    module _ (c : ℕ) (e : Down (record { 0 = c }) ≡ stepping C w (last_of p).node.0 (last_of p).index) where
+    module _ (c : ℕ) (g : Some (record { 0 = c }) ≡ stepping C s (last_of p).node.0 (last_of p).index) where
+      down : Some (record { 0 = c }) ≡ stepping C w (last_of p).node.0 (last_of p).index
+      down = same_step (Some (record { 0 = c })) g
+
       pub goes_in : Freeable C P w W k j s (entered_path p c)
       unfolding clean lefts enters on_path
       goes_in =
           let n = (last_of p).node.0 in
-          let a = step_down sure some_depth e in
+          let a = step_down sure some_depth down in
           let q = first-seen f.seen f.after (left false C P w (entered_path p c)) (Enter c) (sym f.parts ∙ a.one) (omega (arith, f.many)) in
           let more = q.0 in
           let left_is : lefts f.seen ≡ lefts more = ap (λ (vs : List Visit). lefts vs) q.1 in
           let on-is : (m : ℕ) → occ m (on_path (trail (entered_path p c))) + occ m (enters more) ≡ occ m (on_path (trail p)) + occ m (enters f.seen) =
-          λ m. omega (arith, on-top m, ap (λ (vs : List Visit). occ m (enters vs)) q.1, occ_cons m c (enters more), ap (λ (st : List Position). occ m (on_path st)) (entered-trail p some_depth f.long c (step_room sure some_depth e)), occ_cons m c (n ∷ on_path (above p)), occ_cons m n (on_path (above p))) in
+          λ m. omega (arith, on-top m, ap (λ (vs : List Visit). occ m (enters vs)) q.1, occ_cons m c (enters more), ap (λ (st : List Position). occ m (on_path st)) (entered-trail p some_depth f.long c (step_room sure some_depth down)), occ_cons m c (n ∷ on_path (above p)), occ_cons m n (on_path (above p))) in
           record {
             header = f.header;
             valid = a.valid;
-            deep = omega (arith, step_room sure some_depth e);
+            deep = omega (arith, step_room sure some_depth down);
             long = entered-length p some_depth f.long c;
             seen = more;
             after = f.after;
@@ -169,7 +175,7 @@ module _ {C : Shape} {P : ℕ} {w W : List ℕ} {k j : ℕ} {s : List ℕ} {p : 
           }
 
       pub less_in : length (left false C P w (entered_path p c)) < length (left false C P w p)
-      less_in = falls (step_down sure some_depth e)
+      less_in = falls (step_down sure some_depth down)
 
       pub room_in : (p.depth < 32) × ((last_of p).index < C.cap)
-      room_in = (step_room sure some_depth e, step-short sure some_depth e)
+      room_in = (step_room sure some_depth down, step-short sure some_depth down)

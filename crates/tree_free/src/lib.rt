@@ -13,7 +13,6 @@ use model::path::{Path, Position};
 use node_chain;
 use node_read::layout::Layout;
 use tree_turn::turn;
-use tree_turn::turn::Step;
 
 // Frees the first k nodes, in postorder, of the tree from root.
 pub fn free_first(l: Layout, s: &mut [u64], root: NodeNo, k: u64)
@@ -27,13 +26,13 @@ pub fn free_first(l: Layout, s: &mut [u64], root: NodeNo, k: u64)
         let at = depth - 1;
         let top = path.positions[at];
         match turn::untested(l, &s[..], top) {
-            Step::Up => {
+            None => {
                 let node = top.node;
                 node_chain::free_node(l, s, node);
                 freed += 1;
                 path.depth = at;
             }
-            Step::Down(child) => {
+            Some(child) => {
                 path.positions[at] = top.turned();
                 path.positions[depth] = Position::entered(child);
                 path.depth = depth + 1;

@@ -1,11 +1,11 @@
 -- What a sound right edge is known by, and the room on it.
 use Prim.Native.Nat.{ℕ, zero, suc, ◌+◌, ◌<◌, ◌≤◌}
-use mathlib.Core.List.{List, [], ◌∷◌}
+use mathlib.Core.List.{List}
 use mathlib.Core.Bool.{true}
 use mathlib.Core.Path.{◌≡◌, refl, sym, ap, ◌∙◌, subst}
 use mathlib.Core.Logic.{⊎_elim, ◌⊎◌, inl, inr, ◌≢◌}
 use native.Mathlib.Omega.{arith}
-use lib.ListN.{get_or, take}
+use lib.ListN.{get_or}
 use lib.Dec.{leb, ltb, leb→le, eqb→eq}
 use borrow.Author.Tests.{lt-ltb, eq-eqb, ne_eqb, ltb-true, ltb-false, leb-true}
 use Rattle.model.specs.Words.{Shape, pick, height, count, start, end, row, child, free_count, row_limit, max_height}
@@ -15,12 +15,14 @@ use Rattle.model.specs.Append.{Room, append_start, room_from, room}
 use Rattle.model.proofs.Tests.{and_l, and_r, by_test, holds}
 use Rattle.node_test.proofs.Rows.{facts}
 use Rattle.tree_path.proofs.Down.{root_empty}
-use Rattle.model.specs.Paths.{no_position}
-use Rattle.model.specs.declared.id.NodeNo.{NodeNo}
+pub use Rattle.tree_path.proofs.Down.{root-high, root-path}
+use Rattle.model.specs.Paths.{no_position, rooted}
 use Rattle.model.specs.declared.path.Position.{Position}
-use Rattle.tree_right_edge.specs.declared.EdgeTest.TheVariants.{Unsound, Sound}
+use Rattle.model.specs.declared.path.Path.{Path}
+use Rattle.model.specs.declared.answer.UnsoundNode.{UnsoundNode}
+use Rattle.std.specs.Prelude.{Result, Ok, Err}
 use Rattle.tree_right_edge.specs.declared.RightEdge.{RightEdge}
-use Rattle.tree_right_edge.specs.Edge.{right_edge, room_of, end_of, Edge, SoundEdge, Descended, EdgeFound, Usable}
+use Rattle.tree_right_edge.specs.Edge.{right_edge, Edge, SoundEdge, Descended, EdgeFound, Usable}
 
 never : {A : Type 0} (m l : ℕ) (b : Limit) → unsound m ≡ leaf l b → A
 never m l b e = let z : ◌≡◌ {A = ℕ} 0 1 = cc in absurd (omega arith)
@@ -138,35 +140,24 @@ module _ (C : Shape) (P : ℕ) (w : List ℕ) where
 
 -- From the root ------------------------------------------------------------------------------------------
 
-module _ (C : Shape) (P : ℕ) (w : List ℕ) (n : ℕ) (e : RightEdge) where
-  never-sound : {A : Type 0} (m : NodeNo) → e.test ≡ Unsound m → e.test ≡ Sound → A
-  never-sound m t q = let z : ◌≡◌ {A = ℕ} 0 1 = cc in absurd (omega arith)
+module _ (C : Shape) (P : ℕ) (w : List ℕ) (n : ℕ) where
+  pub edged_not : (m : UnsoundNode) → root_leaf (to_right C w) C P w n ≡ unsound m.0.0 → EdgeFound C P w n (Err m)
+  edged_not m d = record { answer = sym d; whole = tt }
 
-  pub edged_not : (m : NodeNo) → e.test ≡ Unsound m → root_leaf (to_right C w) C P w n ≡ unsound m.0 → EdgeFound C P w n e
-  edged_not m t d = record { answer = rw t (sym d); whole = λ q. never-sound m t q }
-
-  -- an edge that ends at a leaf is ready
-  edge-ready : n < P → end_of e.test e.leaf.0 ≡ root_leaf (to_right C w) C P w n → e.test ≡ Sound → SoundEdge C P w n e.leaf.0
-  edge-ready l a q = (ready C P w n e.leaf.0 Open l (sym a ∙ rw q)).0
-
-  pub edged_down : n < P → root_leaf (to_right C w) C P w n ≡ descend (to_right C w) C P w (height C w n) n n (start C w n) Open → Descended C P w (height C w n) n (start C w n) e → EdgeFound C P w n e
+  pub edged_down : (e : Result RightEdge UnsoundNode) → n < P → root_leaf (to_right C w) C P w n ≡ descend (to_right C w) C P w (height C w n) n n (start C w n) Open → Descended C P w (height C w n) n (start C w n) e → EdgeFound C P w n e
   unfolding room
-  edged_down l p d =
+  edged_down (Err m) l p d = record { answer = d.answer ∙ sym p; whole = tt }
+  edged_down (Ok x) l p d =
       let a = d.answer ∙ sym p in
-      record { answer = a; whole = λ q. let v = d.walked q in record { ready = edge-ready l a q; deep = v.deep; path = v.path; room = v.room } }
+      record { answer = a; whole = record { ready = (ready C P w n x.leaf.0 Open l (sym a)).0; deep = d.walked.deep; path = d.walked.path; room = d.walked.room } }
 
   -- an empty root: one position, with room
-  pub edged_empty : n < P → 0 < C.cap → empty_root C w n ≡ true → e.test ≡ Sound → e.leaf.0 ≡ n → e.path.depth ≡ 1 → take 1 e.path.positions ≡ record { node = record { 0 = n }; index = 0 } ∷ [] → room_of e.room ≡ record { node = n; needed = 0 } → EdgeFound C P w n e
+  pub edged_empty : (q : Path) → q ≡ rooted n → n < P → 2 ≤ C.cap → empty_root C w n ≡ true → EdgeFound C P w n (Ok (record { path = q; leaf = record { 0 = n }; room = record { node = record { 0 = n }; needed = 0 } }))
   unfolding room room_from right_edge
-  edged_empty l c t k f d p o =
+  edged_empty q p l c t =
       let z = empty_facts C w n t in
-      let a : end_of e.test e.leaf.0 ≡ root_leaf (to_right C w) C P w n = rw (k, f) (sym (root_empty (to_right C w) C P w n t)) in
-      record {
-        answer = a;
-        whole = λ q. record {
-          ready = edge-ready l a q;
-          deep = rw z.0 d;
-          path = rw (z.0, z.1, d) p;
-          room = o ∙ rw (z.0, z.1, lt-ltb 0 C.cap c);
-        };
-      }
+      let a = root_empty (to_right C w) C P w n t in
+      record { answer = sym a; whole = record { ready = (ready C P w n n Open l a).0; deep = rw (z.0, p); path = rw (z.0, z.1, p); room = rw (z.0, z.1, lt-ltb 0 C.cap (omega arith)) } }
+
+-- what the steps from the root cite
+pub ruleset root_steps = (edged_not, edged_down, root-high, root-path)

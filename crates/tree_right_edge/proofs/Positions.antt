@@ -13,7 +13,7 @@ use Rattle.model.specs.Reading.{to_right}
 use Rattle.model.specs.Append.{Room, room}
 use Rattle.model.specs.Paths.{no_position}
 use Rattle.model.specs.declared.path.Position.{Position}
-use Rattle.tree_right_edge.specs.declared.EdgeTest.TheVariants.{Sound}
+use Rattle.std.specs.Prelude.{Ok}
 use Rattle.tree_right_edge.specs.declared.RightEdge.{RightEdge}
 use Rattle.tree_right_edge.specs.Edge.{last_in, right_edge, room_of, Edge, WholeEdge, EdgeFound}
 use Rattle.tree_right_edge.proofs.Edges.{on, ready, Lowest, found}
@@ -36,12 +36,12 @@ module _ (C : Shape) (P : ℕ) (w : List ℕ) where
 
 -- The right edge from root n, where it is sound: its positions, from the root's down to the leaf's ---------
 
-module _ (C : Shape) (P : ℕ) (w : List ℕ) (n : ℕ) (e : RightEdge) (d : EdgeFound C P w n e) (s : e.test ≡ Sound) where
+module _ (C : Shape) (P : ℕ) (w : List ℕ) (n : ℕ) (e : RightEdge) (d : EdgeFound C P w n (Ok e)) where
   abbrev pub position : ℕ → Position
   position i = get_or e.path.positions i no_position
 
   abbrev v : WholeEdge C P w n e
-  v = d.whole s
+  v = d.whole
 
   stands : (i : ℕ) → i < e.path.depth → position i ≡ on C P w (height C w n) n i
   stands i l = sym (get_or-take e.path.depth e.path.positions i no_position l) ∙ ap (λ (q : List Position). get_or q i no_position) v.path
@@ -51,7 +51,7 @@ module _ (C : Shape) (P : ℕ) (w : List ℕ) (n : ℕ) (e : RightEdge) (d : Edg
   edge-root = ap (λ (p : Position). p.node.0) (stands 0 (omega (arith, v.deep)) ∙ first C P w (height C w n) n)
 
   pub edge-leaf : (position (height C w n)).node.0 ≡ e.leaf.0
-  edge-leaf = rw (stands (height C w n) (omega (arith, v.deep))) (ready C P w n e.leaf.0 Open (rw (first C P w (height C w n) n) at (each C P w (height C w n) n 0 v.ready.edge (omega arith)).0) (sym d.answer ∙ rw s)).1
+  edge-leaf = rw (stands (height C w n) (omega (arith, v.deep))) (ready C P w n e.leaf.0 Open (rw (first C P w (height C w n) n) at (each C P w (height C w n) n 0 v.ready.edge (omega arith)).0) (sym d.answer)).1
 
   -- the room is at the last position that is not full; where all are, none
   lowest : ((room_of e.room ≡ record { node = n; needed = height C w n + 2 }) × ((i : ℕ) → i ≤ height C w n → C.cap ≤ count C w (on C P w (height C w n) n i).node.0)) ⊎ Lowest C P w (height C w n) n (room_of e.room)

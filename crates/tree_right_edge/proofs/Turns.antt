@@ -16,9 +16,9 @@ use Rattle.model.specs.Append.{Room, room_from}
 use Rattle.model.specs.declared.path.Position.{Position}
 use Rattle.node_test.proofs.Rows.{facts}
 use Rattle.tree_path.proofs.Down as down
-use Rattle.model.specs.declared.id.NodeNo.{NodeNo}
+use Rattle.model.specs.declared.answer.UnsoundNode.{UnsoundNode}
 use Rattle.tree_right_edge.specs.Edge.{right_edge, room_of, Descended}
-use Rattle.tree_right_edge.specs.declared.EdgeTest.TheVariants.{Unsound, Sound}
+use Rattle.std.specs.Prelude.{Ok, Err}
 use Rattle.tree_right_edge.specs.declared.RightEdge.{RightEdge}
 
 -- after the last entry comes what comes after the node
@@ -102,13 +102,16 @@ module _ {C : Shape} {P : ℕ} {w : List ℕ} {k t q : ℕ} {ps : List Position}
           room = g.room ∙ room-turn C w h n i o z e ∙ rw here;
         }
 
-    pub arrives : h ≡ 0 → (x : RightEdge) → x.test ≡ Sound → x.leaf.0 ≡ n → x.path ≡ record { positions = set ps d at; depth = d + 1 } → room_of x.room ≡ u → Descended C P w k t q x
-    arrives z x a b c f =
+    pub arrives : h ≡ 0 → (x : RightEdge) → x.leaf.0 ≡ n → x.path ≡ record { positions = set ps d at; depth = d + 1 } → room_of x.room ≡ u → Descended C P w k t q (Ok x)
+    arrives z x b c f =
         record {
-          answer = rw (a, b) (sym (g.same ∙ down.ends (to_right C w) C P w m n r Open h (omega arith) l (rw z at s)));
-          walked = λ y. record { deep = rw c (omega (arith, g.levels)); path = rw c (taken ∙ sym (g.path ∙ rw (edge-end C w h n i z e))); room = f ∙ here ∙ sym (g.room ∙ room-end C w h n o z) };
+          answer = rw b (sym (g.same ∙ down.ends (to_right C w) C P w m n r Open h (omega arith) l (rw z at s)));
+          walked = record { deep = rw c (omega (arith, g.levels)); path = rw c (taken ∙ sym (g.path ∙ rw (edge-end C w h n i z e))); room = f ∙ here ∙ sym (g.room ∙ room-end C w h n o z) };
         }
 
 -- an edge that ends at an unsound node
-pub stops : (C : Shape) (P : ℕ) (w : List ℕ) (h n r : ℕ) (e : RightEdge) (m : NodeNo) → e.test ≡ Unsound m → descend (to_right C w) C P w h n n r Open ≡ unsound m.0 → Descended C P w h n r e
-stops C P w h n r e m t d = record { answer = rw t (sym d); walked = λ q. (let z : ◌≡◌ {A = ℕ} 0 1 = cc in absurd (omega arith)) }
+pub stops : (C : Shape) (P : ℕ) (w : List ℕ) (h n r : ℕ) (m : UnsoundNode) → descend (to_right C w) C P w h n n r Open ≡ unsound m.0.0 → Descended C P w h n r (Err m)
+stops C P w h n r m d = record { answer = sym d; walked = tt }
+
+-- what the steps down cite
+pub ruleset edge_steps = (begins, far, bad, entry, goes_on, arrives, stops, has_room, no_room)

@@ -3,19 +3,18 @@
 
 #![tactic(auto)]
 
-ghost use Rattle.std.specs.Prelude.{◌≡◌, ◌+◌, ◌-◌, ◌≤◌, ◌<◌};
+ghost use Rattle.std.specs.Prelude.{◌≡◌, ◌≤◌, ◌<◌};
 ghost use Rattle.model.specs.Words.{max_height};
 ghost use Rattle.model.specs.Append.{append_start};
 ghost use Rattle.node_read.specs.Layout.{Fits, shape_of};
-ghost use Rattle.tree_right_edge.specs.declared.EdgeTest.TheVariants.{Unsound};
 ghost use Rattle.tree_right_edge.specs.Edge.{Descended, EdgeFound};
 
+use model::answer::UnsoundNode;
 use model::id::{NodeNo, RowID};
 use model::path::{Path, Position};
 use node_read::layout::Layout;
 use node_root;
 use node_test;
-use node_test::Limit;
 
 // The node that gets the new entry, and how many nodes that needs.
 #[derive(Clone, Copy)]
@@ -24,57 +23,43 @@ pub struct Room {
     pub needed: u64,
 }
 
-// The first unsound node of the edge; or all of them are sound.
-#[derive(Clone, Copy)]
-pub enum EdgeTest {
-    Unsound(NodeNo),
-    Sound,
-}
-
 // The path down the right edge, each node at its last entry; its leaf; and the lowest node with room.
 #[derive(Clone, Copy)]
 pub struct RightEdge {
-    pub test: EdgeTest,
     pub path: Path,
     pub leaf: NodeNo,
     pub room: Room,
 }
 
 // The row after the right leaf n; an empty root begins at its start.
+#[tactic(auto, unfolding(model::specs::Append::append_start))]
 pub fn range_start(l: Layout, s: &[u64], n: NodeNo) -> RowID
     requires fits { Fits l s.now }
     requires n_lt_pool { n.0 < l.pool }
     ensures { result.0 ≡ append_start (shape_of l) s.now n.0 }
 {
     let h = l.header(s, n);
-    let empty = h.is_empty();
-    if empty {
+    if h.is_empty() {
         return h.start_row_id;
     }
     h.end_row_id
 }
 
-// Node n is unsound, and there is no edge.
-fn unsound(n: NodeNo) -> RightEdge
-    ensures { result.test ≡ Unsound n }
-{
-    RightEdge {
-        test: EdgeTest::Unsound(n),
-        path: Path::new(),
-        leaf: n,
-        room: Room { node: n, needed: 0 },
-    }
-}
-
 // From a root of this height that starts at this row. The positions are stored to in place; what is next stays open on
 // the right edge.
-fn go_down(l: Layout, s: &[u64], root: NodeNo, height: u64, row: RowID) -> RightEdge
+#[tactic(auto, using(crate::proofs::Turns::edge_steps))]
+fn go_down(
+    l: Layout,
+    s: &[u64],
+    root: NodeNo,
+    height: u64,
+    row: RowID,
+) -> Result<RightEdge, UnsoundNode>
     requires fits { Fits l s.now }
     requires height_le_max_height { height ≤ max_height }
     ensures { Descended (shape_of l) l.pool s.now height root.0 row.0 result }
 {
-    let start = Position::entered(root);
-    let mut positions = [start; 32];
+    let mut positions = [Position::entered(root); 32];
     let mut room = Room {
         node: root,
         needed: height + 2,
@@ -84,13 +69,13 @@ fn go_down(l: Layout, s: &[u64], root: NodeNo, height: u64, row: RowID) -> Right
     let mut h = height;
     let mut r = row;
     let mut depth: usize = 0;
+    // no `for` over heights: the leaf is tested and stored as the others are, and has no child
     loop {
         if l.pool <= n.0 {
-            return unsound(parent);
+            return Err(UnsoundNode(parent));
         }
-        let good = node_test::is_sound(l, s, n, h, r, Limit::Open);
-        if !good {
-            return unsound(n);
+        if !node_test::is_sound(l, s, n, h, r, None) {
+            return Err(UnsoundNode(n));
         }
         let head = l.header(s, n);
         let full = head.is_full(l.capacity);
@@ -101,12 +86,11 @@ fn go_down(l: Layout, s: &[u64], root: NodeNo, height: u64, row: RowID) -> Right
         positions[depth] = Position { node: n, index };
         depth += 1;
         if h == 0 {
-            return RightEdge {
-                test: EdgeTest::Sound,
+            return Ok(RightEdge {
                 path: Path { positions, depth },
                 leaf: n,
                 room,
-            };
+            });
         }
         r = l.row(s, n, index);
         parent = n;
@@ -117,32 +101,25 @@ fn go_down(l: Layout, s: &[u64], root: NodeNo, height: u64, row: RowID) -> Right
 
 // From the root of an open store, which is its own holder: no entry leads to it. An empty root is an edge of one
 // position, with room.
-pub fn right_edge(l: Layout, s: &[u64], root: NodeNo) -> RightEdge
+#[tactic(auto, using(crate::proofs::Edges::root_steps))]
+pub fn right_edge(l: Layout, s: &[u64], root: NodeNo) -> Result<RightEdge, UnsoundNode>
     requires fits { Fits l s.now }
     requires root_lt_pool { root.0 < l.pool }
     ensures { EdgeFound (shape_of l) l.pool s.now root.0 result }
 {
-    let empty = node_root::is_empty_root(l, s, root);
-    if empty {
-        return RightEdge {
-            test: EdgeTest::Sound,
-            path: Path {
-                positions: [Position {
-                    node: root,
-                    index: 0,
-                }; 32],
-                depth: 1,
-            },
+    if node_root::is_empty_root(l, s, root) {
+        return Ok(RightEdge {
+            path: Path::rooted(root),
             leaf: root,
             room: Room {
                 node: root,
                 needed: 0,
             },
-        };
+        });
     }
     let h = l.header(s, root);
     if !h.is_in_height() {
-        return unsound(root);
+        return Err(UnsoundNode(root));
     }
     go_down(l, s, root, h.height, h.start_row_id)
 }

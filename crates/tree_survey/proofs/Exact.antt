@@ -22,14 +22,14 @@ use Rattle.law_formed.proofs.Tally.{entered, pages_in, lower, sound-visits, leaf
 use Rattle.tree_survey.specs.Leaves.{sum_pairs, leaves_below, root_leaves}
 use Rattle.tree_tally.specs.Tally.{more, no_counts, counted, tally}
 use Rattle.tree_tally.specs.declared.Counts.{Counts}
-use Rattle.tree_tally.specs.declared.Survey.{Survey}
-use Rattle.tree_tally.specs.declared.Survey.TheVariants.{Unsound, Counted}
+use Rattle.model.specs.declared.answer.UnsoundNode.{UnsoundNode}
+use Rattle.std.specs.Prelude.{Result, Ok, Err}
 
 -- Which node it names ------------------------------------------------------------------------------------
 
-unfoldable pub fault_of : Survey → Fault
-fault_of (Unsound n) = at n.0
-fault_of (Counted k) = clear
+unfoldable pub fault_of : Result Counts UnsoundNode → Fault
+fault_of (Err u) = at u.0.0
+fault_of (Ok k) = clear
 
 pub tally_fault : (C : Shape) (w : List ℕ) (vs : List Visit) (k : Counts) → fault_of (tally C w vs k) ≡ first_bad vs
 unfolding tally first_bad fault_of
@@ -39,23 +39,23 @@ tally_fault C w (Leave n ∷ vs) k = tally_fault C w vs k
 tally_fault C w (Bad n ∷ vs) k = refl
 
 module _ (C : Shape) (w : List ℕ) (vs : List Visit) (k : Counts) where
-  pub survey_bad : (n : ℕ) → tally C w vs k ≡ Unsound (record { 0 = n }) → first_bad vs ≡ at n
+  pub survey_bad : (n : ℕ) → tally C w vs k ≡ Err (record { 0 = record { 0 = n } }) → first_bad vs ≡ at n
   unfolding fault_of
   survey_bad n e = sym (tally_fault C w vs k) ∙ ap fault_of e
 
-  pub survey_clear : (j : Counts) → tally C w vs k ≡ Counted j → first_bad vs ≡ clear
+  pub survey_clear : (j : Counts) → tally C w vs k ≡ Ok j → first_bad vs ≡ clear
   unfolding fault_of
   survey_clear j e = sym (tally_fault C w vs k) ∙ ap fault_of e
 
 -- and back
-pub bad_survey : (C : Shape) (w : List ℕ) (vs : List Visit) (k : Counts) (n : ℕ) → first_bad vs ≡ at n → tally C w vs k ≡ Unsound (record { 0 = n })
+pub bad_survey : (C : Shape) (w : List ℕ) (vs : List Visit) (k : Counts) (n : ℕ) → first_bad vs ≡ at n → tally C w vs k ≡ Err (record { 0 = record { 0 = n } })
 unfolding tally first_bad
 bad_survey C w [] k n e = let z : ◌≡◌ {A = ℕ} 0 1 = cc in absurd (omega arith)
 bad_survey C w (Enter m ∷ vs) k n e = bad_survey C w vs (counted C w m k) n e
 bad_survey C w (Leave m ∷ vs) k n e = bad_survey C w vs k n e
 bad_survey C w (Bad m ∷ vs) k n e = let z : m ≡ n = cc in rw z
 
-pub clear_survey : (C : Shape) (w : List ℕ) (vs : List Visit) (k : Counts) → first_bad vs ≡ clear → (j : Counts) × (tally C w vs k ≡ Counted j)
+pub clear_survey : (C : Shape) (w : List ℕ) (vs : List Visit) (k : Counts) → first_bad vs ≡ clear → (j : Counts) × (tally C w vs k ≡ Ok j)
 unfolding tally first_bad
 clear_survey C w [] k e = (k, refl)
 clear_survey C w (Enter m ∷ vs) k e = clear_survey C w vs (counted C w m k) e
@@ -98,9 +98,9 @@ module _ (C : Shape) (w : List ℕ) where
 
   -- below 2^32 nothing is cut off
   pub counted-plus : (vs : List Visit) (k : Counts) → T (clean vs) → k.nodes + entered vs < 2 ^ 32 → k.leaves + leaves_in C w vs < 2 ^ 32 → k.entries + pages_in C w vs < 2 ^ 32
-      → tally C w vs k ≡ Counted (plus k vs)
+      → tally C w vs k ≡ Ok (plus k vs)
   unfolding tally clean counted entered leaves_in pages_in
-  counted-plus [] k c a b d = ap Counted (counts-is (omega arith) (omega arith) (omega arith))
+  counted-plus [] k c a b d = ap Ok (counts-is (omega arith) (omega arith) (omega arith))
   counted-plus (Enter n ∷ vs) k c a b d =
       by_test (eqb (height C w n) 0)
       (λ t. let b₂ : k.leaves + (1 + leaves_in C w vs) < 2 ^ 32 = rw t at b in
@@ -109,14 +109,14 @@ module _ (C : Shape) (w : List ℕ) where
       rw t
       (ap (tally C w vs) (counts-is (more-is k.nodes 1 (omega arith)) (more-is k.leaves 1 (omega arith)) (more-is k.entries (count C w n) (omega arith)))
       ∙ counted-plus vs j c (omega arith) (omega arith) (omega arith)
-      ∙ ap Counted (counts-is (omega arith) (omega arith) (omega arith))))
+      ∙ ap Ok (counts-is (omega arith) (omega arith) (omega arith))))
       (λ t. let b₂ : k.leaves + (0 + leaves_in C w vs) < 2 ^ 32 = rw t at b in
       let d₂ : k.entries + (0 + pages_in C w vs) < 2 ^ 32 = rw t at d in
       let j : Counts = record { nodes = k.nodes + 1; leaves = k.leaves; entries = k.entries } in
       rw t
       (ap (tally C w vs) (counts-is (more-is k.nodes 1 (omega arith)) refl refl)
       ∙ counted-plus vs j c (omega arith) (omega arith) (omega arith)
-      ∙ ap Counted (counts-is (omega arith) (omega arith) (omega arith))))
+      ∙ ap Ok (counts-is (omega arith) (omega arith) (omega arith))))
   counted-plus (Leave n ∷ vs) k c a b d = counted-plus vs k c a b d
   counted-plus (Bad n ∷ vs) k c a b d = absurd c
 
@@ -160,11 +160,11 @@ module _ (C : Shape) (P : ℕ) (w : List ℕ) where
 
     -- the law
     pub survey_counts : Header C.cap P w → n < P → SoundRoot C P w (height C w n) n
-        → tally C w (root_visits false C P w n) no_counts ≡ Counted (record { nodes = length (root_nodes C w n); leaves = root_leaves C w n; entries = length (root_entries C w n) })
+        → tally C w (root_visits false C P w n) no_counts ≡ Ok (record { nodes = length (root_nodes C w n); leaves = root_leaves C w n; entries = length (root_entries C w n) })
     survey_counts hd i s =
         let vs = root_visits false C P w n in
         let few : length (root_nodes C w n) ≤ P = root-few-nodes C P w (height C w n) n i s in
         let es : length (root_entries C w n) ≤ C.cap * length (root_nodes C w n) = root-few-entries C P w (height C w n) n s in
         let top : C.cap * length (root_nodes C w n) ≤ 4094 * 65535 = omega (arith, mul-le-mul_left C.cap few, mul-le-mul_left C.cap hd.pool-high, mul-le-mul_right 65535 hd.cap-high) in
         counted-plus C w vs no_counts (clear-clean vs (sound-root C P w n s)) (omega (arith, root-entered C P w n s, few, hd.pool-high)) (omega (arith, few-leaves C w vs, root-entered C P w n s, few, hd.pool-high)) (omega (arith, root-pages C P w n s, es, top))
-        ∙ ap Counted (counts-is (omega (arith, root-entered C P w n s)) (omega (arith, root-leaves s)) (omega (arith, root-pages C P w n s)))
+        ∙ ap Ok (counts-is (omega (arith, root-entered C P w n s)) (omega (arith, root-leaves s)) (omega (arith, root-pages C P w n s)))

@@ -8,23 +8,26 @@ use Rattle.model.specs.Words.{Shape, height, start, max_height}
 use Rattle.model.specs.Tree.{Open, node_at, empty_root, level}
 use Rattle.model.specs.Reading.{Enter, passes, visits, root_visits}
 use Rattle.tree_turn.specs.Left.{bound, rest, below}
-use Rattle.tree_turn.proofs.Rest.{child-bad, child-good}
+use Rattle.tree_turn.proofs.Rest.{child-bad, child-good, passes-fits, root-valid}
+use Rattle.tree_turn.proofs.Tests.{pass-sound, pass-unsound}
+use Rattle.tree_turn.proofs.Turns.{by_ends}
+use Rattle.law_formed.proofs.Rooted.{empty_of}
 use Rattle.tree_tally.specs.Tally.{counted, tally}
 use Rattle.tree_tally.specs.declared.Counts.{Counts}
-use Rattle.tree_tally.specs.declared.Survey.TheVariants.{Unsound, Counted}
+use Rattle.std.specs.Prelude.{Ok, Err}
 
 module _ (ends : Bool) (C : Shape) (P : ℕ) (w : List ℕ) (n : ℕ) (k : Counts) where
-  pub from_empty : empty_root C w n ≡ true → tally C w (root_visits ends C P w n) k ≡ Counted (counted C w n k)
+  pub from_empty : empty_root C w n ≡ true → tally C w (root_visits ends C P w n) k ≡ Ok (counted C w n k)
   unfolding root_visits tally
   from_empty e = rw e
 
   module _ (e : empty_root C w n ≡ false) where
-    pub from-high : leb (height C w n) max_height ≡ false → tally C w (root_visits ends C P w n) k ≡ Unsound (record { 0 = n })
+    pub from-high : leb (height C w n) max_height ≡ false → tally C w (root_visits ends C P w n) k ≡ Err (record { 0 = record { 0 = n } })
     unfolding root_visits tally
     from-high h = rw (e, h)
 
     module _ (h : leb (height C w n) max_height ≡ true) (inside : n < P) where
-      pub from-bad : passes ends C (height C w n) (node_at C w n) (start C w n) Open ≡ false → tally C w (root_visits ends C P w n) k ≡ Unsound (record { 0 = n })
+      pub from-bad : passes ends C (height C w n) (node_at C w n) (start C w n) Open ≡ false → tally C w (root_visits ends C P w n) k ≡ Err (record { 0 = record { 0 = n } })
       unfolding root_visits tally
       from-bad s = rw (e, h, child-bad ends C P w (height C w n) n n (start C w n) Open inside s)
 
@@ -35,3 +38,5 @@ module _ (ends : Bool) (C : Shape) (P : ℕ) (w : List ℕ) (n : ℕ) (k : Count
           let q : visits ends C P (suc (height C w n)) n (level C w (suc (height C w n)) n) (start C w n) Open ≡ Enter n ∷ below ends C P w n =
           sym (append-nil (visits ends C P (suc (height C w n)) n (level C w (suc (height C w n)) n) (start C w n) Open)) ∙ child-good ends C P w (height C w n) n n (start C w n) [] inside s in
           rw (e, h, q)
+
+pub ruleset from_root = (from_empty, from-high, from-bad, from-good, empty_of, pass-sound, pass-unsound, passes-fits, root-valid, by_ends)

@@ -1,4 +1,3 @@
 pub mod FromRoot
 pub mod WithEnds
 pub mod Exact
-pub mod Limits

@@ -1,10 +1,8 @@
+use Prim.Native.Nat.{◌-◌}
 use mathlib.Core.Path.{◌≡◌}
 use Rattle.node_read.specs.Layout.{shape_of}
 use Rattle.model.specs.FullCheck.{chain_ends}
 use Rattle.call_check.proofs.follow_chain.Given as goal
 
-abbrev pub invariant-loop-more : goal.invariant-loop-more
-invariant-loop-more l = chain_ends (shape_of l.l) l.l.pool l.s l.initial.n.0 l.k ≡ chain_ends (shape_of l.l) l.l.pool l.s l.n.0 l.more
-
-abbrev pub decreases-loop-more : goal.decreases-loop-more
-decreases-loop-more l = l.more
+abbrev pub invariant-loop : goal.invariant-loop
+invariant-loop l = chain_ends (shape_of l.l) l.l.pool l.s l.initial.n.0 l.k ≡ chain_ends (shape_of l.l) l.l.pool l.s l.n.0 (l.k - l.counter)

@@ -1,12 +1,15 @@
-use mathlib.Core.Path.{sym, ◌∙◌}
-use Rattle.model.specs.Refusals.{Answer}
-use Rattle.model.specs.FullCheck.{full_check}
-use Rattle.node_read.proofs.Opened.{is-refused}
+use mathlib.Core.Path.{sym, ap, ◌∙◌}
+use Rattle.std.proofs.lemmas.Result.{err_from_is_err_and}
+use Rattle.node_read.proofs.Opened.{is_open}
+use Rattle.call_check.proofs.Passes.{first-bad, second-bad}
 use Rattle.call_check.proofs.full_check.Goals as goal
 
-pub check_open-requires : goal.check_open-requires
-check_open-requires c = sym c.«open».ensures ∙ c.in-Open.is
+pub returns-in_err-counts : goal.returns-in_err-counts
+returns-in_err-counts c =
+    let p = err_from_is_err_and c.from_residual-in_err-counts.result c.from_residual-in_err-counts.ensures.1 in
+    rw (p.1, p.2) (sym (first-bad _ _ (is_open _ _ (sym c.«open».ensures ∙ c.in_ok-h.was)) _ (sym c.survey_both-surveys.ensures.nodes ∙ c.in_err-counts.was)))
 
-pub returns-in-Refused : goal.returns-in-Refused
-unfolding full_check
-returns-in-Refused c = sym (is-refused _ c.in-Refused.r (sym c.«open».ensures ∙ c.in-Refused.is) (λ (a : Answer). a) _)
+pub returns-in_err-surveys : goal.returns-in_err-surveys
+returns-in_err-surveys c =
+    let p = err_from_is_err_and c.from_residual-in_err-surveys.result c.from_residual-in_err-surveys.ensures.1 in
+    rw (p.1, p.2) (sym (second-bad _ _ (is_open _ _ (sym c.«open».ensures ∙ c.in_ok-h.was)) _ (sym c.survey_both-surveys.ensures.nodes ∙ c.in_ok-counts.was) _ (sym c.survey_both-surveys.ensures.ends ∙ c.in_err-surveys.was)))

@@ -1,65 +1,48 @@
-use mathlib.Core.Bool.{true, false}
-use mathlib.Core.Path.{◌≡◌, sym, ap, ◌∙◌}
-use borrow.Author.Tests.{leb-true}
-use lib.Dec.{leb}
-use Rattle.node_read.specs.Layout.{shape_of}
-use Rattle.model.specs.Words.{height, start, max_height}
-use Rattle.model.specs.Tree.{Open}
-use Rattle.model.specs.Refusals.{Outcome, refused}
-use Rattle.model.specs.declared.node.RowPageIndexNodeHeader.{RowPageIndexNodeHeader}
-use Rattle.node_test.specs.Test.{node_test}
-use Rattle.tree_turn.proofs.Tests.{pass-sound, pass-unsound}
-use Rattle.call_prune.proofs.Deciding.{at_high, at-bad, at_other, at-start, at-root}
+use mathlib.Core.Path.{refl, sym, ◌∙◌}
+use Rattle.std.proofs.lemmas.Result.{err_from_is_err_and}
+use Rattle.model.proofs.Order.{ne_holds, ne_fails}
+use Rattle.prune_list.specs.Named.{Ending}
+use Rattle.prune_edge.specs.Found.{Finds}
+use Rattle.call_prune.proofs.Deciding.{at-bad, good, high, at_other, at-root, at-refused, at-entries}
 use Rattle.call_prune.proofs.prune_filled.Goals as goal
 
-pub header-head-requires : goal.header-head-requires
-header-head-requires c = record { fits = c.requires.in_open.header; n_lt_pool = c.requires.in_open.inside }
-
-pub returns-then-not-is_in_height : goal.returns-then-not-is_in_height
-returns-then-not-is_in_height c =
+pub returns-in_default : goal.returns-in_default
+returns-in_default c =
     let a = c.args in
-    let lo : leb (height (shape_of a.h.layout) a.s.now a.h.root.0) max_height ≡ false = sym (ap (λ (x : RowPageIndexNodeHeader). leb x.height max_height) c.header-head.ensures) ∙ sym c.is_in_height.ensures ∙ c.if-not-is_in_height.true in
-    let e = at_high (shape_of a.h.layout) a.h.layout.pool a.s.now a.h.root.0 a.start.0 a.end.0 a.ids.now c.requires.root_value lo in
-    record { answer = sym (ap (λ (o : Outcome). o.answer) e); words = sym (ap (λ (o : Outcome). o.words) e) }
+    let e = at-bad _ _ _ _ a.start.0 a.end.0 a.ids.now c.header-head.ensures c.requires.root_value (sym c.is_in_height.ensures ∙ c.if-not-is_in_height.false) (sym c.test_node.ensures ∙ c.in_default.is) in
+    record { answer = rw e; words = rw e }
 
-pub test_node-requires : goal.test_node-requires
-test_node-requires c = record { fits = c.requires.in_open.header; n_lt_pool = c.requires.in_open.inside }
-
-pub returns-then-start-begin : goal.returns-then-start-begin
-returns-then-start-begin c =
+pub returns-then-ne : goal.returns-then-ne
+returns-then-ne c =
     let a = c.args in
-    let lo : leb (height (shape_of a.h.layout) a.s.now a.h.root.0) max_height ≡ true = sym (ap (λ (x : RowPageIndexNodeHeader). leb x.height max_height) c.header-head.ensures) ∙ sym c.is_in_height.ensures ∙ c.if-not-is_in_height.false in
-    let g = pass-sound (shape_of a.h.layout) a.h.layout.pool a.s.now a.h.root.0 (height (shape_of a.h.layout) a.s.now a.h.root.0) (start (shape_of a.h.layout) a.s.now a.h.root.0) Open _ (sym (c.test_node.ensures ∙ ap (λ (x : RowPageIndexNodeHeader). node_test (shape_of a.h.layout) a.h.layout.pool a.s.now a.h.root.0 x.height x.start_row_id.0 Open) c.header-head.ensures) ∙ c.in-Sound.is) in
-    let b = ap (λ (x : RowPageIndexNodeHeader). x.start_row_id.0) c.header-head.ensures in
-    let e = at_other (shape_of a.h.layout) a.h.layout.pool a.s.now a.h.root.0 a.start.0 a.end.0 a.ids.now c.requires.root_value lo g.0 (λ z. c.if-start-begin.true (z ∙ sym b)) in
-    record { answer = ap (refused 8) b ∙ sym (ap (λ (o : Outcome). o.answer) e); words = sym (ap (λ (o : Outcome). o.words) e) }
+    let e = at_other _ _ _ _ a.start.0 a.end.0 a.ids.now c.header-head.ensures c.requires.root_value (sym c.is_in_height.ensures ∙ c.if-not-is_in_height.false) (sym c.test_node.ensures ∙ c.in-Some.is) (ne_holds _ _ (sym c.ne.ensures ∙ c.if-ne.true)) in
+    record { answer = rw e; words = rw e }
 
-pub scan_tree-named-requires : goal.scan_tree-named-requires
-scan_tree-named-requires c =
+pub scan_tree-requires : goal.scan_tree-requires
+scan_tree-requires c =
     let a = c.args in
-    let lo : leb (height (shape_of a.h.layout) a.s.now a.h.root.0) max_height ≡ true = sym (ap (λ (x : RowPageIndexNodeHeader). leb x.height max_height) c.header-head.ensures) ∙ sym c.is_in_height.ensures ∙ c.if-not-is_in_height.false in
-    let g = pass-sound (shape_of a.h.layout) a.h.layout.pool a.s.now a.h.root.0 (height (shape_of a.h.layout) a.s.now a.h.root.0) (start (shape_of a.h.layout) a.s.now a.h.root.0) Open _ (sym (c.test_node.ensures ∙ ap (λ (x : RowPageIndexNodeHeader). node_test (shape_of a.h.layout) a.h.layout.pool a.s.now a.h.root.0 x.height x.start_row_id.0 Open) c.header-head.ensures) ∙ c.in-Sound.is) in
-    record { fits = c.requires.in_open.header; passed_root = (c.requires.in_open.inside, leb-true _ _ lo, g.0); first_value = g.1; ids_nonzero = c.requires.ids_nonzero }
+    let g = good _ _ _ _ a.start.0 a.end.0 a.ids.now c.header-head.ensures c.requires.root_value (sym c.is_in_height.ensures ∙ c.if-not-is_in_height.false) (sym c.test_node.ensures ∙ c.in-Some.is) in
+    record { fits = c.requires.in_open.header; passed_root = (c.requires.in_open.inside, high _ _ _ _ a.start.0 a.end.0 a.ids.now c.header-head.ensures c.requires.root_value (sym c.is_in_height.ensures ∙ c.if-not-is_in_height.false) (sym c.test_node.ensures ∙ c.in-Some.is), g.0); first_value = g.1; ids_nonzero = c.requires.ids_nonzero }
 
-pub prune_named-requires : goal.prune_named-requires
-prune_named-requires c =
+pub returns-in_err-prefix : goal.returns-in_err-prefix
+returns-in_err-prefix c =
     let a = c.args in
-    let lo : leb (height (shape_of a.h.layout) a.s.now a.h.root.0) max_height ≡ true = sym (ap (λ (x : RowPageIndexNodeHeader). leb x.height max_height) c.header-head.ensures) ∙ sym c.is_in_height.ensures ∙ c.if-not-is_in_height.false in
-    let g = pass-sound (shape_of a.h.layout) a.h.layout.pool a.s.now a.h.root.0 (height (shape_of a.h.layout) a.s.now a.h.root.0) (start (shape_of a.h.layout) a.s.now a.h.root.0) Open _ (sym (c.test_node.ensures ∙ ap (λ (x : RowPageIndexNodeHeader). node_test (shape_of a.h.layout) a.h.layout.pool a.s.now a.h.root.0 x.height x.start_row_id.0 Open) c.header-head.ensures) ∙ c.in-Sound.is) in
-    record { rooted_in = at-root (shape_of a.h.layout) a.h.layout.pool a.s.now a.h.root.0 a.start.0 a.end.0 a.ids.now c.requires.root_value lo g.0 a.h.free_count c.requires.in_open; ending = c.scan_tree-named.ensures.edge }
+    let p = err_from_is_err_and c.from_residual.result c.from_residual.ensures.1 in
+    let e = at-refused _ _ _ _ a.start.0 a.end.0 a.ids.now c.header-head.ensures c.requires.root_value (sym c.is_in_height.ensures ∙ c.if-not-is_in_height.false) (sym c.test_node.ensures ∙ c.in-Some.is) (ne_fails _ _ (sym c.ne.ensures ∙ c.if-ne.false)) c.in_err-prefix.ensures.answer c.in_err-prefix.field-0.0 refl in
+    record { answer = rw (p.1, p.2, e); words = rw e }
 
-pub returns-in-Unsound : goal.returns-in-Unsound
-returns-in-Unsound c =
-    let a = c.args in
-    let lo : leb (height (shape_of a.h.layout) a.s.now a.h.root.0) max_height ≡ true = sym (ap (λ (x : RowPageIndexNodeHeader). leb x.height max_height) c.header-head.ensures) ∙ sym c.is_in_height.ensures ∙ c.if-not-is_in_height.false in
-    let e = at-bad (shape_of a.h.layout) a.h.layout.pool a.s.now a.h.root.0 a.start.0 a.end.0 a.ids.now c.requires.root_value lo (pass-unsound (shape_of a.h.layout) a.h.layout.pool a.s.now a.h.root.0 (height (shape_of a.h.layout) a.s.now a.h.root.0) (start (shape_of a.h.layout) a.s.now a.h.root.0) Open (sym (c.test_node.ensures ∙ ap (λ (x : RowPageIndexNodeHeader). node_test (shape_of a.h.layout) a.h.layout.pool a.s.now a.h.root.0 x.height x.start_row_id.0 Open) c.header-head.ensures) ∙ c.in-Unsound.is)) in
-    record { answer = sym (ap (λ (o : Outcome). o.answer) e); words = sym (ap (λ (o : Outcome). o.words) e) }
+pub find_edge-boundary-requires : goal.find_edge-boundary-requires
+unfolding Ending
+find_edge-boundary-requires c = record { fits = c.requires.in_open.header; given = (c.args.end.0, c.args.h.root.0, c.in_ok-prefix.ensures.edge) }
 
-pub returns-else-start-begin : goal.returns-else-start-begin
-returns-else-start-begin c =
+pub prune_edge-requires : goal.prune_edge-requires
+unfolding Ending Finds
+prune_edge-requires c =
     let a = c.args in
-    let lo : leb (height (shape_of a.h.layout) a.s.now a.h.root.0) max_height ≡ true = sym (ap (λ (x : RowPageIndexNodeHeader). leb x.height max_height) c.header-head.ensures) ∙ sym c.is_in_height.ensures ∙ c.if-not-is_in_height.false in
-    let g = pass-sound (shape_of a.h.layout) a.h.layout.pool a.s.now a.h.root.0 (height (shape_of a.h.layout) a.s.now a.h.root.0) (start (shape_of a.h.layout) a.s.now a.h.root.0) Open _ (sym (c.test_node.ensures ∙ ap (λ (x : RowPageIndexNodeHeader). node_test (shape_of a.h.layout) a.h.layout.pool a.s.now a.h.root.0 x.height x.start_row_id.0 Open) c.header-head.ensures) ∙ c.in-Sound.is) in
-    let b = ap (λ (x : RowPageIndexNodeHeader). x.start_row_id.0) c.header-head.ensures in
-    let e = at-start (shape_of a.h.layout) a.h.layout.pool a.s.now a.h.root.0 a.start.0 a.end.0 a.ids.now c.requires.root_value lo g.0 (c.if-start-begin.false ∙ b) in
-    record { answer = c.prune_named.ensures.answer ∙ rw c.scan_tree-named.ensures.answer (sym (ap (λ (o : Outcome). o.answer) e)); words = c.prune_named.ensures.words ∙ rw c.scan_tree-named.ensures.answer (sym (ap (λ (o : Outcome). o.words) e)) }
+    (at-root _ _ _ _ a.start.0 a.end.0 a.ids.now c.header-head.ensures c.requires.root_value (sym c.is_in_height.ensures ∙ c.if-not-is_in_height.false) (sym c.test_node.ensures ∙ c.in-Some.is) _ c.requires.in_open, c.find_edge-boundary.ensures a.end.0 a.h.root.0 c.in_ok-prefix.ensures.edge)
+
+pub returns : goal.returns
+returns c =
+    let a = c.args in
+    let e = at-entries _ _ _ _ a.start.0 a.end.0 a.ids.now c.header-head.ensures c.requires.root_value (sym c.is_in_height.ensures ∙ c.if-not-is_in_height.false) (sym c.test_node.ensures ∙ c.in-Some.is) (ne_fails _ _ (sym c.ne.ensures ∙ c.if-ne.false)) c.in_ok-prefix.ensures.answer c.in_ok-prefix.prefix refl in
+    record { answer = rw e c.prune_edge.ensures.answer; words = rw e c.prune_edge.ensures.words }

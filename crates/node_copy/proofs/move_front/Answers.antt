@@ -1,25 +1,32 @@
-use borrow.Author.Rules.{rules}
-use mathlib.Core.Path.{sym, ◌∙◌}
-use native.Mathlib.Nat.{sub-zero}
-use Rattle.model.specs.Prune.{moved}
-use Rattle.node_write.proofs.Turns.{turn, stop}
+use native.Mathlib.Omega.{arith}
+use Prim.Native.Nat.{◌+◌}
+use mathlib.Core.Path.{ap, ◌∙◌}
+use Rattle.model.specs.Words.{word_place}
+use Rattle.model.proofs.Words.{small}
+use Rattle.model.proofs.Parts.{pairs-inside}
+use Rattle.node_read.specs.Layout.{shape_of}
 use Rattle.node_copy.proofs.move_front.Goals as goal
 
-pub loop-i-init : goal.loop-i-init
-loop-i-init c = (search rules, search rules, rw sub-zero)
+pub overflow_add-at : goal.overflow_add-at
+overflow_add-at c =
+    let a = c.args in
+    let first = c.place-first.ensures ∙ ap (word_place (shape_of a.l) a.n.0) c.row_place.ensures in
+    omega (arith, first, pairs-inside _ _ _ c.requires.fits a.n.0 a.k c.requires.n_lt_pool.0 (omega arith), small _ _ _ c.requires.fits)
 
-pub loop-i-preserved : goal.loop-i-preserved
-unfolding moved
-loop-i-preserved c =
-    let p = c in
-    let x = p in
-    let r = x in
-    let t = r in (
-      search rules,
-      search rules,
-      t.loop-i.invariant.2 ∙ turn (moved _ _ _ _ _) _ _ t.loop-i-test.true ∙ rw (p.put_pair.ensures, x.part-x.ensures, x.child_place.ensures, r.row-row.ensures),
-    )
+pub overflow_add-at-2 : goal.overflow_add-at-2
+overflow_add-at-2 c =
+    let a = c.args in
+    let first = c.place-first.ensures ∙ ap (word_place (shape_of a.l) a.n.0) c.row_place.ensures in
+    omega (arith, first, pairs-inside _ _ _ c.requires.fits a.n.0 (a.k + a.m) c.requires.n_lt_pool.0 (omega arith), small _ _ _ c.requires.fits)
 
-pub returns : goal.returns
-unfolding moved
-returns c = sym (c.loop-i.invariant.2 ∙ stop (moved _ _ _ _ _) _ _ c.loop-i-test.false)
+pub copy_within-requires-clause-in_bounds : goal.copy_within-requires-clause-in_bounds
+copy_within-requires-clause-in_bounds c =
+    let a = c.args in
+    let first = c.place-first.ensures ∙ ap (word_place (shape_of a.l) a.n.0) c.row_place.ensures in
+    omega (arith, first, pairs-inside _ _ _ c.requires.fits a.n.0 (a.k + a.m) c.requires.n_lt_pool.0 (omega arith))
+
+pub copy_within-requires-clause-dest_in_bounds : goal.copy_within-requires-clause-dest_in_bounds
+copy_within-requires-clause-dest_in_bounds c =
+    let a = c.args in
+    let first = c.place-first.ensures ∙ ap (word_place (shape_of a.l) a.n.0) c.row_place.ensures in
+    omega (arith, first, pairs-inside _ _ _ c.requires.fits a.n.0 a.m c.requires.n_lt_pool.0 (omega arith))

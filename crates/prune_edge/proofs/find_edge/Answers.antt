@@ -4,13 +4,13 @@ use Rattle.prune_boundary.proofs.Joined.{edge-ahead}
 use Rattle.prune_edge.specs.Found.{Climbs, Finds}
 use Rattle.prune_edge.proofs.find_edge.Goals as goal
 
-pub settle-edge-requires : goal.settle-edge-requires
+pub settle-requires : goal.settle-requires
 unfolding Climbs
-settle-edge-requires c =
+settle-requires c =
     let p = c.requires in
-    let t = c.climb-top.ensures _ _ p.given.2 in
+    let t = c.climb-boundary.ensures _ _ p.given.2 in
     record { levels_bound = (ended-low p.given.2, t.climbed.long); by_index = λ i m. edge-ahead t.climbed i (omega arith) }
 
 pub returns : goal.returns
 unfolding Climbs Finds
-returns c = λ e n d. record { from = _; topped = c.climb-top.ensures e n d; settled = rw (ended-high d) c.settle-edge.ensures }
+returns c = λ e n d. record { from = _; topped = c.climb-boundary.ensures e n d; settled = rw (ended-high d) c.settle.ensures }

@@ -1,4 +1,4 @@
-use Prim.Native.Nat.{◌+◌, ◌-◌, ◌≤◌}
+use Prim.Native.Nat.{◌+◌, ◌-◌}
 use mathlib.Core.Path.{◌≡◌}
 use lib.ListN.{length}
 use Rattle.node_read.specs.Layout.{shape_of}
@@ -7,7 +7,4 @@ use Rattle.release_pages.specs.Pages.{pages_from}
 use Rattle.release_pages.proofs.copy_leaf.Given as goal
 
 abbrev pub invariant-loop-i : goal.invariant-loop-i
-invariant-loop-i l = (fill l.initial.pages l.at (pages_from (shape_of l.l) l.s l.n.0 0 l.count) ≡ fill l.pages l.place (pages_from (shape_of l.l) l.s l.n.0 l.i (l.count - l.i))) × (l.place ≡ l.at + l.i) × (l.i ≤ l.count) × (length l.pages ≡ length l.initial.pages)
-
-abbrev pub decreases-loop-i : goal.decreases-loop-i
-decreases-loop-i l = l.count - l.i
+invariant-loop-i l = (fill l.initial.pages l.at (pages_from (shape_of l.l) l.s l.n.0 0 l.h.count) ≡ fill l.pages (l.at + l.i) (pages_from (shape_of l.l) l.s l.n.0 l.i (l.h.count - l.i))) × (length l.pages ≡ length l.initial.pages)

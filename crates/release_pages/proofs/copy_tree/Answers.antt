@@ -17,31 +17,28 @@ copy_leaf-place-requires c =
     let x = c.loop-path.invariant.0 in
     let z = c.loop-path-test.true in
     let t = at_top (sure x.walk) z in
-    record { fits = c.requires.releasable.header; n_lt_pool = (t.inside, t.narrow, leaf_room x z (sym c.in-Up.is ∙ c.untested.ensures)) }
+    record { fits = c.requires.releasable.header; n_lt_pool = (t.inside, t.narrow, leaf_room x z (sym c.in-None.is ∙ c.untested.ensures)) }
 
-pub loop-path-smaller-in-Up : goal.loop-path-smaller-in-Up
-loop-path-smaller-in-Up c = (takes_out c.loop-path.invariant.0 c.loop-path-test.true (sym c.in-Up.is ∙ c.untested.ensures)).less
+pub loop-path-smaller-in-None : goal.loop-path-smaller-in-None
+loop-path-smaller-in-None c = (takes_out c.loop-path.invariant.0 c.loop-path-test.true (sym c.in-None.is ∙ c.untested.ensures)).less
 
-pub loop-path-preserved-in-Up : goal.loop-path-preserved-in-Up
-loop-path-preserved-in-Up c =
+pub loop-path-preserved-in-None : goal.loop-path-preserved-in-None
+loop-path-preserved-in-None c =
     let x = c.loop-path in
     rw (c.copy_leaf-place.ensures.after, c.copy_leaf-place.ensures.list)
-    ((takes_out x.invariant.0 c.loop-path-test.true (sym c.in-Up.is ∙ c.untested.ensures)).taking, length-fill x.pages x.place _ ∙ x.invariant.1)
+    ((takes_out x.invariant.0 c.loop-path-test.true (sym c.in-None.is ∙ c.untested.ensures)).taking, length-fill x.pages x.place _ ∙ x.invariant.1)
 
 pub turned-requires : goal.turned-requires
-turned-requires c = omega (arith, step-short (sure c.loop-path.invariant.0.walk) c.loop-path-test.true (sym c.in-Down.is ∙ c.untested.ensures), c.requires.releasable.header.cap-high)
+turned-requires c = omega (arith, step-short (sure c.loop-path.invariant.0.walk) c.loop-path-test.true (sym c.in-Some.is ∙ c.untested.ensures), c.requires.releasable.header.cap-high)
 
 pub bounds-path-depth : goal.bounds-path-depth
-bounds-path-depth c = step_room (sure c.loop-path.invariant.0.walk) c.loop-path-test.true (sym c.in-Down.is ∙ c.untested.ensures)
+bounds-path-depth c = step_room (sure c.loop-path.invariant.0.walk) c.loop-path-test.true (sym c.in-Some.is ∙ c.untested.ensures)
 
 pub loop-path-smaller : goal.loop-path-smaller
-loop-path-smaller c = rw (c.entered.ensures, c.turned.ensures) (takes_in c.loop-path.invariant.0 c.loop-path-test.true (sym c.in-Down.is ∙ c.untested.ensures)).less
+loop-path-smaller c = rw (c.entered.ensures, c.turned.ensures) (takes_in c.loop-path.invariant.0 c.loop-path-test.true (sym c.in-Some.is ∙ c.untested.ensures)).less
 
 pub loop-path-preserved : goal.loop-path-preserved
-loop-path-preserved c = rw (c.entered.ensures, c.turned.ensures) ((takes_in c.loop-path.invariant.0 c.loop-path-test.true (sym c.in-Down.is ∙ c.untested.ensures)).taking, c.loop-path.invariant.1)
-
-pub shape_of-pages : goal.shape_of-pages
-shape_of-pages c = c.loop-path.invariant.1
+loop-path-preserved c = rw (c.entered.ensures, c.turned.ensures) ((takes_in c.loop-path.invariant.0 c.loop-path-test.true (sym c.in-Some.is ∙ c.untested.ensures)).taking, c.loop-path.invariant.1)
 
 pub returns : goal.returns
 returns c = all-taken (rw c.rooted-path.ensures at c.loop-path.invariant.0) (omega (arith, c.loop-path-test.false))

@@ -1,8 +1,5 @@
-use Prim.Native.Nat.{◌-◌, ◌≤◌}
+use Prim.Native.Nat.{◌≤◌}
 use Rattle.script_both.proofs.try_lengths.Given as goal
 
 abbrev pub invariant-loop-len : goal.invariant-loop-len
 invariant-loop-len l = l.wrong ≤ l.len
-
-abbrev pub decreases-loop-len : goal.decreases-loop-len
-decreases-loop-len l = l.to - l.len

@@ -1,18 +1,22 @@
-use Rattle.std.proofs.Common.{◌≡◌, ◌+◌, ◌-◌, ◌≤◌, ℕ, List, length, take, drop, arith}
-use Rattle.std.proofs.lemmas.List.{take-take}
-use Rattle.std.proofs.Math.Seq.{take-add}
-use Rattle.std.proofs.KnownBytes.{Appends-trans}
-use Rattle.std.specs.Io.KnownBytes.{Appends}
-use Rattle.std.specs.declared.option.Option.{Option}
+use Rattle.std.proofs.Common.{◌≡◌, ℕ, ◌-◌, List, ◌++◌, length, take, drop, append_assoc, take-append-drop}
+use Rattle.std.proofs.lemmas.List.{take_rest}
+use Rattle.std.proofs.KnownBytes.{Appends-trans, Appends-kept}
 use Rattle.script_io.proofs.write_whole.Goals as goal
+use Rattle.script_io.proofs.write_whole.Goals.{in-Ok, in-Err+in_ok-again-in-Err}
 
--- the bytes written so far, and those of one more write
-more_written : (a b c : Option (List ℕ)) (buf : List ℕ) (d n m : ℕ) → n ≤ m → Appends a b (take d buf) → Appends b c (take n (take m (drop d buf))) → Appends a c (take (d + n) buf)
-more_written a b c buf d n m h p q =
-    let e : take n (take m (drop d buf)) ≡ take n (drop d buf) = take-take n m (drop d buf) h in
-    rw (take-add d n buf) (Appends-trans a b c _ _ p (rw e at q))
+-- n more bytes were written
+moved : (buf done rest : List ℕ) (n : ℕ) → buf ≡ done ++ rest → buf ≡ (done ++ take n rest) ++ take (length rest - n) (drop n rest)
+moved buf done rest n e = rw (take_rest rest n, append_assoc, take-append-drop) e
 
-pub loop-done-preserved-in-Ok : goal.loop-done-preserved-in-Ok
-loop-done-preserved-in-Ok g c =
-    let few : c.in-Ok.put ≤ length c.args.buf.now - c.loop-done.done = grind (arith, c.in-Ok.ensures.bound) in
-    (omega arith, more_written _ _ _ c.args.buf.now c.loop-done.done c.in-Ok.put _ few c.loop-done.invariant.1 c.in-Ok.ensures.bytes)
+pub loop-preserved : goal.loop-preserved
+loop-preserved g c =
+    let (done, split, written) = c.loop.invariant in
+    let rest = c.loop.rest.now in
+    elim c.match-write.branch [
+      | in-Ok w ↦
+          let more : c.args.buf.now ≡ (done ++ take w.in-Ok.count rest) ++ c.match-write.rest.now = rw w.rest-is (moved _ done rest w.in-Ok.count split) in
+          (done ++ take w.in-Ok.count rest, more, Appends-trans _ _ _ _ _ written w.in-Ok.ensures.bytes)
+      | in-Err+in_ok-again-in-Err w ↦
+          let same : c.args.buf.now ≡ done ++ c.match-write.rest.now = rw w.rest-is split in
+          (done, same, Appends-kept _ _ _ _ written w.in-Err.ensures.bytes)
+    ]

@@ -1,6 +1,6 @@
 use native.Mathlib.Omega.{arith}
-use Rattle.script_records.proofs.Little.{halves}
+use Rattle.script_records.proofs.Little.{reads}
 use Rattle.script_records.proofs.read_u32.Goals as goal
 
 pub returns : goal.returns
-returns c = halves (omega arith) c.read_u16-low.ensures c.read_u16-high.ensures
+returns c = reads 3 (rw c.unwrap.ensures at c.try_into.ensures.1).same (omega arith) (omega arith) c.from_le_bytes.ensures

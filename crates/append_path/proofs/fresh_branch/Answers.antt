@@ -1,6 +1,0 @@
-use Rattle.model.specs.Append.{fresh}
-use Rattle.append_path.proofs.fresh_branch.Goals as goal
-
-pub returns : goal.returns
-unfolding fresh
-returns c = rw (c.put_child.ensures, c.put_header.ensures)
