@@ -58,9 +58,11 @@ pub fn load(s: &mut [u64], i: usize, words: &[u64]) -> Option<()>
     ensures length { length s.new ≡ length s.old }
     ensures none { IsNone result → s.new ≡ s.old }
 {
-    s.get_mut(i..)?
-        .get_mut(..words.len())?
-        .copy_from_slice(words);
+    let end = i.checked_add(words.len())?;
+    if s.len() < end {
+        return None;
+    }
+    s[i..end].copy_from_slice(words);
     Some(())
 }
 
