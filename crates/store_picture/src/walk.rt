@@ -32,7 +32,7 @@ pub struct Below<'a> {
     words: &'a [u64],
     // of the root
     height: u64,
-    // the path, as long as it is deep
+    // the first depth of them are the path
     places: [Place; 32],
     depth: usize,
     visited: u64,
