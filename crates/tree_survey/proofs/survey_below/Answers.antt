@@ -2,7 +2,7 @@ use mathlib.Core.Path.{sym, ap, ◌∙◌}
 use borrow.Author.Tests.{not-false}
 use Rattle.node_read.specs.Layout.{shape_of}
 use Rattle.tree_turn.specs.Turn.{turn_of}
-use Rattle.tree_turn.proofs.Turns.{placed, done-up}
+use Rattle.tree_turn.proofs.Turns.{placed, done-up, narrow}
 use Rattle.tree_survey.proofs.WithEnds.{start-both, both-up, both-bad, both-down}
 use Rattle.tree_survey.proofs.survey_below.Goals as goal
 
@@ -26,6 +26,9 @@ returns-in-Err c =
     let v = rw c.rooted-path.ensures at c.loop-path.invariant in
     let q = both-bad v c.loop-path-test.true (sym (ap turn_of c.in-Err.is) ∙ c.tested.ensures) in
     record { nodes = c.both.ensures.nodes ∙ q.0; ends = c.both.ensures.ends ∙ q.1 }
+
+pub count_node-counts-requires-clause-n_lt_pool : goal.count_node-counts-requires-clause-n_lt_pool
+count_node-counts-requires-clause-n_lt_pool c = narrow c.loop-path.invariant.held c.loop-path-test.true (sym (ap turn_of c.in-Ok.is) ∙ c.tested.ensures)
 
 pub loop-path-preserved : goal.loop-path-preserved
 loop-path-preserved c =
