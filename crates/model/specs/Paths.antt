@@ -1,5 +1,5 @@
 -- 01, "What the source's own forms become": "`Vec` stacks become a path record holding 32 positions, one for each level."
-use Rattle.std.specs.Prelude.{ℕ, zero, suc, ◌+◌, ◌-◌, List, [], ◌∷◌, get_or, replicate}
+use Rattle.std.specs.Prelude.{ℕ, zero, suc, ◌+◌, ◌-◌, List, [], ◌∷◌, get_or, replicate, set}
 use Rattle.model.specs.declared.path.Position.{Position}
 use Rattle.model.specs.declared.path.Path.{Path}
 
@@ -33,3 +33,13 @@ entered n = record { node = record { 0 = n }; index = 0 }
 -- a path at it
 abbrev pub rooted : ℕ → Path
 rooted n = record { positions = replicate 32 (entered n); depth = 1 }
+
+-- the last position left; moved on to the next entry; moved on, with node n entered below it
+abbrev pub popped : Path → Path
+popped p = record { positions = p.positions; depth = p.depth - 1 }
+
+abbrev pub turned_path : Path → Path
+turned_path p = record { positions = set p.positions (p.depth - 1) (turned (last_of p)); depth = p.depth }
+
+abbrev pub entered_path : Path → ℕ → Path
+entered_path p n = record { positions = set (set p.positions (p.depth - 1) (turned (last_of p))) p.depth (entered n); depth = p.depth + 1 }

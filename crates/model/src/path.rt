@@ -1,7 +1,7 @@
 // The path from the root to a node.
 
-ghost use Rattle.std.specs.Prelude.{◌≡◌, [], ◌+◌, ◌<◌};
-ghost use Rattle.model.specs.Paths.{entered, rooted, trail, turned};
+ghost use Rattle.std.specs.Prelude.{◌≡◌, [], ◌+◌, ◌<◌, ◌≤◌};
+ghost use Rattle.model.specs.Paths.{entered, entered_path, last_of, popped, rooted, trail, turned};
 
 use crate::id::NodeNo;
 
@@ -58,5 +58,33 @@ impl Path {
             }; 32],
             depth: 0,
         }
+    }
+
+    // The last position.
+    pub fn last(&self) -> Position
+        requires { (0 < self.now.depth) × (self.now.depth ≤ 32) }
+        ensures { result ≡ last_of self.now }
+    {
+        self.positions[self.depth - 1]
+    }
+
+    // The last position moves on to its next entry, and a child is entered below it.
+    pub fn enter(&mut self, child: NodeNo)
+        requires depth { (0 < self.old.depth) × (self.old.depth < 32) }
+        requires index { (last_of self.old).index < 4294967295 }
+        ensures { self.new ≡ entered_path self.old child.0 }
+    {
+        let at = self.depth - 1;
+        self.positions[at] = self.positions[at].turned();
+        self.positions[self.depth] = Position::entered(child);
+        self.depth += 1;
+    }
+
+    // The last position is left.
+    pub fn leave(&mut self)
+        requires { 0 < self.old.depth }
+        ensures { self.new ≡ popped self.old }
+    {
+        self.depth -= 1;
     }
 }

@@ -11,7 +11,7 @@ use borrow.Author.Tests.{lt-ltb, le-ltb}
 use Rattle.model.specs.Words.{Shape, height, count, start, end, row, child}
 use Rattle.model.specs.Tree.{Limit, Below, pairs_from, node_at, level, next, last, sound, all_pairs, AllSound}
 use Rattle.model.specs.Reading.{passes, next_row}
-use Rattle.model.specs.Paths.{stack, trail, last_of, above, turned, entered, rooted}
+use Rattle.model.specs.Paths.{stack, trail, last_of, above, turned, entered, rooted, popped, entered_path}
 use Rattle.model.specs.declared.path.Position.{Position}
 use Rattle.model.specs.declared.path.Path.{Path}
 use Rattle.model.proofs.Tests.{holds, and_l}
@@ -25,7 +25,6 @@ use Rattle.tree_turn.specs.Turn.{has_child}
 use Rattle.tree_turn.proofs.Rest.{bound-turned}
 use Rattle.tree_turn.proofs.Tests.{branch, no_more}
 use Rattle.tree_turn.proofs.Branch.{Went}
-use Rattle.tree_turn.proofs.InPlace.{popped, entered_path}
 use Rattle.prune_boundary.specs.Behind.{Passed, limit_at, Done, Above, Behind, BehindPath}
 
 -- one more pair at the end

@@ -11,7 +11,7 @@ use borrow.Author.Tests.{lt-ltb}
 use Rattle.model.specs.Words.{Shape, height, count, row}
 use Rattle.model.specs.Reading.{Visit, Leave, occ, root_nodes}
 use Rattle.model.specs.Cut.{cut_pairs, cut, went_pairs, went}
-use Rattle.model.specs.Paths.{no_position, trail, last_of, above}
+use Rattle.model.specs.Paths.{no_position, trail, last_of, above, popped}
 use Rattle.model.specs.declared.path.Position.{Position}
 use Rattle.model.specs.declared.path.Path.{Path}
 use Rattle.model.proofs.Paths.{stack_pop, stack_set, stack-none, stack-turn}
@@ -23,7 +23,6 @@ use Rattle.tree_turn.specs.Left.{left, Valid, ValidPath, Moves, on_path}
 use Rattle.tree_turn.specs.Trace.{Walked}
 use Rattle.tree_turn.proofs.Valid.{valid-top, valid-path}
 use Rattle.tree_turn.proofs.Moves.{leaf_move, end_move}
-use Rattle.tree_turn.proofs.InPlace.{popped}
 use Rattle.tree_turn.proofs.Trace.{walked-out}
 use Rattle.prune_boundary.specs.Behind.{Above, Behind}
 use Rattle.prune_boundary.specs.Edge.{Meets, position_of, first_pairs, first_nodes, went_of, Stays, trims_up, trims_on, Cutting, Ended, Climbed}

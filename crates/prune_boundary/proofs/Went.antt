@@ -9,12 +9,12 @@ use lib.ListN.{length, take}
 use Rattle.model.specs.Words.{Shape, height, count, row, child}
 use Rattle.model.specs.Tree.{pairs_from, level}
 use Rattle.model.specs.Reading.{in_pairs, nodes, root_nodes}
-use Rattle.model.specs.Paths.{stack, last_of, above, rooted}
+use Rattle.model.specs.Paths.{stack, last_of, above, rooted, popped, entered_path}
 use Rattle.model.specs.declared.path.Position.{Position}
 use Rattle.model.specs.declared.path.Path.{Path}
 use Rattle.model.proofs.Paths.{stack_pop}
 use Rattle.model.proofs.Writes.{pairs_snoc}
-use Rattle.tree_turn.proofs.InPlace.{popped, entered_path, entered-under, entered-last}
+use Rattle.tree_turn.proofs.InPlace.{entered-under, entered-last}
 use Rattle.prune_boundary.specs.Behind.{Passed, Above, Behind}
 use Rattle.prune_boundary.specs.Edge.{first_pairs, first_nodes, went_of, trims_up, trims_on}
 use Rattle.prune_boundary.proofs.Behind.{tall}

@@ -5,12 +5,11 @@ use mathlib.Core.Path.{◌≡◌, refl, ap, ◌∙◌}
 use native.Mathlib.Omega.{arith}
 use lib.ListN.{length}
 use Rattle.model.specs.Words.{Shape, count, Header}
-use Rattle.model.specs.Paths.{last_of}
+use Rattle.model.specs.Paths.{last_of, popped}
 use Rattle.model.specs.declared.path.Path.{Path}
 use Rattle.law_formed.specs.Visits.{lefts}
 use Rattle.tree_tally.specs.Tally.{few}
 use Rattle.tree_tally.proofs.Few.{few-is, few-most}
-use Rattle.tree_turn.proofs.InPlace.{popped}
 use Rattle.prune_boundary.specs.Edge.{went_of, trims_on, Ended, Climbed, Topped}
 use Rattle.prune_boundary.proofs.Climbs.{marked, went-marked, start-climb, climb, one_more, edge_few}
 

@@ -11,7 +11,7 @@ use Rattle.model.specs.Words.{Shape, pick, height, count, start}
 use Rattle.model.specs.Tree.{Open, node_at, level}
 use Rattle.model.specs.Reading.{Visit, Enter, Leave, passes, visits}
 use Rattle.model.specs.Prune.{Scan, stopped, on, scan_leaf, spoilt, scan, ran_out}
-use Rattle.model.specs.Paths.{no_position, last_of, entered, rooted}
+use Rattle.model.specs.Paths.{no_position, last_of, entered, rooted, popped, turned_path, entered_path}
 use Rattle.model.specs.declared.path.Position.{Position}
 use Rattle.model.specs.declared.path.Path.{Path}
 use Rattle.node_test.specs.Test.{limit_of}
@@ -24,7 +24,7 @@ use Rattle.tree_turn.specs.Trace.{Walked}
 use Rattle.tree_turn.specs.Turn.{out_of, up, down, bad}
 use Rattle.tree_turn.proofs.Rest.{left-none, child-good}
 use Rattle.tree_turn.proofs.Branch.{left_it, went}
-use Rattle.tree_turn.proofs.InPlace.{rooted-left, popped, turned_path, entered_path, entered-trail, entered-last}
+use Rattle.tree_turn.proofs.InPlace.{rooted-left, entered-trail, entered-last}
 use Rattle.tree_turn.proofs.Trace.{start-walked, walked-out, walked_in}
 use Rattle.tree_turn.proofs.Turns.{Held, turn_at, start-held, turn_up, held_up, turn-bad, room, turn-down, held_down}
 use Rattle.model.specs.Refusals.{Answer, result, refused}

@@ -12,7 +12,7 @@ ghost use Rattle.prune_list.specs.Named.{Begun, Ending, PassedRoot, below_scan, 
 
 use model::answer::Refusal;
 use model::id::{NodeNo, RowID};
-use model::path::{Path, Position};
+use model::path::Path;
 use node_read::layout::Layout;
 use prune_leaf;
 use prune_leaf::Progress;
@@ -59,17 +59,15 @@ fn scan_below(
             return Err(Refusal::ListTooLong(named.place as u64));
         }
         let at = depth - 1;
-        let top = path.positions[at];
+        let top = path.last();
         if turn::is_done(l, s, top) {
-            path.depth = at;
+            path.leave();
             left = tree_tally::add(left, 1);
             continue;
         }
         let turned = turn::tested(l, s, top, firsts[at], nexts[at])?;
         let child = turned.child;
-        path.positions[at] = top.turned();
-        path.positions[depth] = Position::entered(child);
-        path.depth = depth + 1;
+        path.enter(child);
         nexts[depth] = turned.next;
         firsts[depth] = turned.first;
         let more = prune_leaf::scan_node(l, s, child, end, ids, named)?;

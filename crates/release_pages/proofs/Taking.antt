@@ -7,7 +7,7 @@ use native.Mathlib.Omega.{arith}
 use lib.ListN.{length, length-append}
 use Rattle.model.specs.Words.{Shape, fill, height}
 use Rattle.model.specs.Reading.{Visit, Entry, page_ids, root_entries}
-use Rattle.model.specs.Paths.{stack, last_of, entered, rooted}
+use Rattle.model.specs.Paths.{stack, last_of, entered, rooted, popped, entered_path}
 use Rattle.model.specs.declared.path.Path.{Path}
 use Rattle.model.proofs.Fill.{fill-append, length-fill}
 use Rattle.tree_turn.specs.Left.{lowest, left, ValidPath}
@@ -15,7 +15,7 @@ use Rattle.std.specs.Prelude.{Some, None}
 use Rattle.tree_turn.specs.Turn.{stepping}
 use Rattle.tree_turn.proofs.Valid.{valid-path}
 use Rattle.tree_turn.proofs.Rest.{left-none}
-use Rattle.tree_turn.proofs.InPlace.{rooted-left, popped, entered_path}
+use Rattle.tree_turn.proofs.InPlace.{rooted-left}
 use Rattle.tree_turn.proofs.Turns.{Known, sure, falls, step-up, known_up, step_down, known-down}
 use Rattle.tree_free.proofs.Root.{begin}
 use Rattle.release_pages.specs.Pages.{pages_at, pages_of}

@@ -10,7 +10,7 @@ ghost use Rattle.release_pages.specs.Pages.{pages_at};
 ghost use Rattle.release_pages.specs.Releasable.{Releasable};
 
 use model::id::NodeNo;
-use model::path::{Path, Position};
+use model::path::Path;
 use node_read::layout::Layout;
 use tree_turn::turn;
 
@@ -41,19 +41,13 @@ pub fn copy_tree(l: Layout, s: &[u64], node: NodeNo, pages: &mut [u64])
     let mut path = Path::rooted(node);
     let mut place: usize = 0;
     while 0 < path.depth {
-        let depth = path.depth;
-        let at = depth - 1;
-        let top = path.positions[at];
+        let top = path.last();
         match turn::untested(l, s, top) {
             None => {
                 place = copy_leaf(l, s, top.node, pages, place);
-                path.depth = at;
+                path.leave();
             }
-            Some(child) => {
-                path.positions[at] = top.turned();
-                path.positions[depth] = Position::entered(child);
-                path.depth = depth + 1;
-            }
+            Some(child) => path.enter(child),
         }
     }
 }

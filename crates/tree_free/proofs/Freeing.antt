@@ -10,7 +10,7 @@ use lib.Dec.{T, ltb}
 use borrow.Author.Tests.{ltb-true, ltb-false}
 use Rattle.model.specs.Words.{Shape, count, free_count, Header, freed, free_all}
 use Rattle.model.specs.Reading.{Visit, Enter, Leave, Bad, occ}
-use Rattle.model.specs.Paths.{trail, last_of, above}
+use Rattle.model.specs.Paths.{trail, last_of, above, popped, entered_path}
 use Rattle.model.specs.declared.path.Position.{Position}
 use Rattle.model.specs.declared.path.Path.{Path}
 use Rattle.model.proofs.Tests.{by_test}
@@ -25,7 +25,7 @@ use Rattle.std.specs.Prelude.{Option, Some, None}
 use Rattle.model.specs.declared.id.NodeNo.{NodeNo}
 use Rattle.tree_turn.proofs.Valid.{valid-top}
 use Rattle.tree_turn.proofs.Rest.{left-none}
-use Rattle.tree_turn.proofs.InPlace.{popped, entered_path, entered-trail, entered-length}
+use Rattle.tree_turn.proofs.InPlace.{entered-trail, entered-length}
 use Rattle.tree_turn.proofs.Branch.{step_same}
 use Rattle.tree_turn.proofs.Turns.{falls, Sure, step-up, step_room, step-short, step_down}
 

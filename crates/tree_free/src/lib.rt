@@ -9,7 +9,7 @@ ghost use Rattle.tree_free.specs.CanFree.{CanFree};
 ghost use Rattle.node_read.specs.Layout.{shape_of};
 
 use model::id::NodeNo;
-use model::path::{Path, Position};
+use model::path::Path;
 use node_chain;
 use node_read::layout::Layout;
 use tree_turn::turn;
@@ -22,21 +22,14 @@ pub fn free_first(l: Layout, s: &mut [u64], root: NodeNo, k: u64)
     let mut path = Path::rooted(root);
     let mut freed: u64 = 0;
     while freed < k {
-        let depth = path.depth;
-        let at = depth - 1;
-        let top = path.positions[at];
+        let top = path.last();
         match turn::untested(l, &s[..], top) {
             None => {
-                let node = top.node;
-                node_chain::free_node(l, s, node);
+                node_chain::free_node(l, s, top.node);
                 freed += 1;
-                path.depth = at;
+                path.leave();
             }
-            Some(child) => {
-                path.positions[at] = top.turned();
-                path.positions[depth] = Position::entered(child);
-                path.depth = depth + 1;
-            }
+            Some(child) => path.enter(child),
         }
     }
 }

@@ -11,7 +11,7 @@ use Rattle.model.specs.Words.{Shape, height, start, end, max_height}
 use Rattle.model.specs.Tree.{Open, node_at, empty_root}
 use Rattle.model.specs.Tree as Tree
 use Rattle.model.specs.Reading.{Visit, end_fits, passes, root_visits}
-use Rattle.model.specs.Paths.{entered, rooted}
+use Rattle.model.specs.Paths.{entered, rooted, popped, entered_path}
 use Rattle.model.specs.declared.path.Path.{Path}
 use Rattle.model.proofs.Tests.{by_test}
 use Rattle.node_test.specs.Test.{limit_of}
@@ -22,7 +22,7 @@ use Rattle.std.specs.Prelude.{Option, Some, None, Result, Ok, Err}
 use Rattle.tree_turn.specs.Left.{left, below, Valid}
 use Rattle.tree_turn.specs.Turn.{out_of, up, down, bad}
 use Rattle.tree_turn.proofs.Rest.{left-none}
-use Rattle.tree_turn.proofs.InPlace.{rooted-left, popped, entered_path}
+use Rattle.tree_turn.proofs.InPlace.{rooted-left}
 use Rattle.tree_turn.proofs.Turns.{falls, by_ends, Held, turn_at, start-held, placed, done-up, turn_up, held_up, turn-bad, room, short, narrow, turn-down, turn-wrong, held_down}
 use Rattle.tree_tally.specs.Tally.{counted, tally}
 use Rattle.tree_tally.specs.declared.Counts.{Counts}

@@ -6,7 +6,7 @@ use mathlib.Core.Path.{◌≡◌, refl, ap, ◌∙◌}
 use native.Mathlib.Omega.{arith}
 use lib.ListN.{get_or, set, length, length-set}
 use lib.Seq.{get_or-set_same, get_or-set_other}
-use Rattle.model.specs.Paths.{no_position, stack, trail, last_of, above, turned, entered, rooted}
+use Rattle.model.specs.Paths.{no_position, stack, trail, last_of, above, turned, entered, rooted, turned_path, entered_path}
 use Rattle.model.specs.declared.path.Position.{Position}
 use Rattle.model.specs.declared.path.Path.{Path}
 use Rattle.model.specs.Words.{Shape, height}
@@ -17,16 +17,6 @@ use Rattle.model.proofs.Paths.{stack_set, stack_push, stack-turn}
 pub rooted-left : (ends : Bool) (C : Shape) (P : ℕ) (w : List ℕ) (n : ℕ) → Valid C P w (height C w n) (entered n ∷ []) → left ends C P w (rooted n) ≡ below ends C P w n
 unfolding stack
 rooted-left ends C P w n v = left_is ends C P w (rooted n) (height C w n) (entered n ∷ []) refl v
-
--- the last position left; moved on; moved on, with node n entered below it
-abbrev pub popped : Path → Path
-popped p = record { positions = p.positions; depth = p.depth - 1 }
-
-abbrev pub turned_path : Path → Path
-turned_path p = record { positions = set p.positions (p.depth - 1) (turned (last_of p)); depth = p.depth }
-
-abbrev pub entered_path : Path → ℕ → Path
-entered_path p n = record { positions = set (set p.positions (p.depth - 1) (turned (last_of p))) p.depth (entered n); depth = p.depth + 1 }
 
 module _ (p : Path) (z : 0 < p.depth) (l : length p.positions ≡ 32) where
   pub turned-trail : p.depth ≤ 32 → trail (turned_path p) ≡ turned (last_of p) ∷ above p

@@ -8,7 +8,7 @@ use lib.ListN.{length}
 use lib.Dec.{T}
 use Rattle.model.specs.Words.{Shape, height}
 use Rattle.model.specs.Reading.{Visit, Enter, Leave, occ}
-use Rattle.model.specs.Paths.{stack, trail, last_of, above, entered, rooted}
+use Rattle.model.specs.Paths.{stack, trail, last_of, above, entered, rooted, popped, entered_path}
 use Rattle.model.specs.declared.path.Position.{Position}
 use Rattle.model.specs.declared.path.Path.{Path}
 use Rattle.model.proofs.Tests.{both}
@@ -20,7 +20,7 @@ use Rattle.law_formed.proofs.Clean.{clean-append}
 use Rattle.law_formed.proofs.Tally.{left-append, enters-append}
 use Rattle.tree_turn.specs.Left.{left, Valid, Moves, on_path}
 use Rattle.tree_turn.specs.Trace.{Walked}
-use Rattle.tree_turn.proofs.InPlace.{rooted-left, popped, entered_path, entered-trail}
+use Rattle.tree_turn.proofs.InPlace.{rooted-left, entered-trail}
 
 module _ {C : Shape} {P : ℕ} {w : List ℕ} {n : ℕ} where
   -- at a node just entered

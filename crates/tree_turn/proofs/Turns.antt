@@ -14,7 +14,7 @@ use Rattle.model.specs.Words.{Shape, pick, height, count, end, row, child}
 use Rattle.model.specs.Tree.{Node, node_at, sound}
 use Rattle.model.specs.Tree as Tree
 use Rattle.model.specs.Reading.{Visit, Enter, Leave, Bad, end_fits, passes, next_row}
-use Rattle.model.specs.Paths.{no_position, stack, last_of, above, turned, entered, rooted}
+use Rattle.model.specs.Paths.{no_position, stack, last_of, above, turned, entered, rooted, popped, turned_path, entered_path}
 use Rattle.model.specs.declared.path.Position.{Position}
 use Rattle.model.specs.declared.path.Path.{Path}
 use Rattle.model.proofs.Tests.{by_test}
@@ -29,7 +29,7 @@ use Rattle.tree_turn.proofs.Rest.{bound-turned, passes-fits}
 use Rattle.tree_turn.proofs.Moves.{far_move, bad_move, enter_move}
 use Rattle.tree_turn.proofs.Tests.{branch, turns_up, before}
 use Rattle.tree_turn.proofs.Branch.{Went, left_it, went, barred, step-out, step_in, move_out}
-use Rattle.tree_turn.proofs.InPlace.{popped, turned_path, entered_path, turned-trail, entered-trail, entered-length, entered-above, entered-other, entered-under, entered-turned, entered-last}
+use Rattle.tree_turn.proofs.InPlace.{turned-trail, entered-trail, entered-length, entered-above, entered-other, entered-under, entered-turned, entered-last}
 
 -- what is left gets shorter
 pub falls : {ends : Bool} {C : Shape} {P : ℕ} {w : List ℕ} {p : Path} {v : Visit} {q : Path} → Moves ends C P w p v q → length (left ends C P w q) < length (left ends C P w p)

@@ -8,39 +8,36 @@ use Rattle.tree_free.proofs.free_first.Goals as goal
 pub loop-freed-init : goal.loop-freed-init
 loop-freed-init c = let a = c.args in rw c.rooted-path.ensures (start-freeing (shape_of a.l) a.l.pool a.s.now a.root.0 a.k c.requires)
 
-pub overflow_sub-at : goal.overflow_sub-at
-overflow_sub-at c = some_depth c.loop-freed.invariant c.loop-freed-test.true
+pub last-top-requires : goal.last-top-requires
+last-top-requires c = let f = c.loop-freed.invariant in (some_depth f c.loop-freed-test.true, omega (arith, f.long))
 
 pub untested-requires-clause-node_lt_pool : goal.untested-requires-clause-node_lt_pool
-untested-requires-clause-node_lt_pool c = last_in_lem c.loop-freed.invariant c.loop-freed-test.true
+untested-requires-clause-node_lt_pool c = rw c.last-top.ensures (last_in_lem c.loop-freed.invariant c.loop-freed-test.true)
 
 pub free_node-requires-clause-n_lt_pool : goal.free_node-requires-clause-n_lt_pool
 free_node-requires-clause-n_lt_pool c =
-    let f = c.loop-freed.invariant in ((last_in_lem f c.loop-freed-test.true).0, omega (arith, f.room, f.many))
+    let f = c.loop-freed.invariant in (rw c.last-top.ensures (last_in_lem f c.loop-freed-test.true).0, omega (arith, f.room, f.many))
 
 pub loop-freed-smaller-in-None : goal.loop-freed-smaller-in-None
-loop-freed-smaller-in-None c = less-out c.loop-freed.invariant c.loop-freed-test.true (sym c.in-None.is ∙ c.untested.ensures)
+loop-freed-smaller-in-None c = rw c.leave.ensures (less-out c.loop-freed.invariant c.loop-freed-test.true (sym c.in-None.is ∙ rw c.last-top.ensures at c.untested.ensures))
+
+pub leave-requires : goal.leave-requires
+leave-requires c = some_depth c.loop-freed.invariant c.loop-freed-test.true
 
 pub loop-freed-preserved-in-None : goal.loop-freed-preserved-in-None
-loop-freed-preserved-in-None c = rw c.free_node.ensures (goes-out c.loop-freed.invariant c.loop-freed-test.true (sym c.in-None.is ∙ c.untested.ensures))
+loop-freed-preserved-in-None c = rw (c.leave.ensures, c.free_node.ensures, c.last-top.ensures) (goes-out c.loop-freed.invariant c.loop-freed-test.true (sym c.in-None.is ∙ rw c.last-top.ensures at c.untested.ensures))
 
-pub turned-requires : goal.turned-requires
-turned-requires c =
+pub enter-requires : goal.enter-requires
+enter-requires c =
     let f = c.loop-freed.invariant in
-    let r = room_in f c.loop-freed-test.true _ (sym c.in-Some.is ∙ c.untested.ensures) in
-    omega (arith, r.1, f.header.cap-high)
-
-pub bounds-path-depth : goal.bounds-path-depth
-bounds-path-depth c =
-    let f = c.loop-freed.invariant in
-    let r = room_in f c.loop-freed-test.true _ (sym c.in-Some.is ∙ c.untested.ensures) in
-    omega (arith, r.0, f.long)
+    let r = room_in f c.loop-freed-test.true _ (sym c.in-Some.is ∙ rw c.last-top.ensures at c.untested.ensures) in
+    record { depth = (some_depth f c.loop-freed-test.true, omega (arith, r.0, f.long)); index = omega (arith, r.1, f.header.cap-high) }
 
 pub loop-freed-smaller : goal.loop-freed-smaller
-loop-freed-smaller c = rw (c.entered.ensures, c.turned.ensures) (less_in c.loop-freed.invariant c.loop-freed-test.true _ (sym c.in-Some.is ∙ c.untested.ensures))
+loop-freed-smaller c = rw c.enter.ensures (less_in c.loop-freed.invariant c.loop-freed-test.true _ (sym c.in-Some.is ∙ rw c.last-top.ensures at c.untested.ensures))
 
 pub loop-freed-preserved : goal.loop-freed-preserved
-loop-freed-preserved c = rw (c.entered.ensures, c.turned.ensures) (goes_in c.loop-freed.invariant c.loop-freed-test.true _ (sym c.in-Some.is ∙ c.untested.ensures))
+loop-freed-preserved c = rw c.enter.ensures (goes_in c.loop-freed.invariant c.loop-freed-test.true _ (sym c.in-Some.is ∙ rw c.last-top.ensures at c.untested.ensures))
 
 pub returns : goal.returns
 returns c = rw c.rooted-path.ensures at (enough c.loop-freed.invariant c.loop-freed-test.false)
