@@ -7,7 +7,8 @@ ghost use Rattle.model.specs.Words.{lent};
 ghost use Rattle.model.specs.Tree.{empty_root};
 ghost use Rattle.model.specs.Refusals.{pruned};
 ghost use Rattle.model.specs.Prune.{prune_checkpoint_prefix};
-ghost use Rattle.prune_cut.specs.Found.{InOpen, prune_in};
+ghost use Rattle.prune_boundary.specs.Edge.{Ended};
+ghost use Rattle.prune_cut.specs.Found.{InOpen, RootedIn, cut_at_in, prune_in};
 ghost use Rattle.node_read.specs.Layout.{shape_of};
 
 use model::answer::{Refusal, RowPagePrefixPrune};
@@ -19,8 +20,25 @@ use node_test;
 use prune_cut;
 use prune_edge;
 use prune_list;
+use prune_list::Prefix;
 
-// On a root that holds entries: its test, its start, then the leaves against the list; what an accepted list names goes.
+// What an accepted list names goes. Not in prune_filled: there the boundary was filled with zeros first, and copied once more.
+fn prune_named(
+    h: StoreHeader,
+    s: &mut [u64],
+    end: RowID,
+    prefix: Prefix,
+) -> Result<RowPagePrefixPrune, Refusal>
+    requires rooted_in { RootedIn h s.old }
+    requires ended { Ended (shape_of h.layout) h.layout.pool s.old end.0 h.root.0 prefix.path prefix.used prefix.left }
+    ensures answer { pruned result ≡ (cut_at_in h s.old end.0 prefix.entries).answer }
+    ensures words { s.new ≡ (cut_at_in h s.old end.0 prefix.entries).words }
+{
+    let boundary = prune_edge::find_edge(h.layout, &s[..], prefix.path, prefix.used, prefix.left);
+    prune_cut::prune_edge(h, s, end, prefix.entries, boundary)
+}
+
+// On a root that holds entries: its test, its start, then the leaves against the list.
 #[tactic(auto, unfolding(prune_cut::specs::Found::prune_at, model::specs::Tree::root_sound))]
 fn prune_filled(
     h: StoreHeader,
@@ -49,8 +67,7 @@ fn prune_filled(
         return Err(Refusal::StartDiffers(begin));
     }
     let prefix = prune_list::scan_tree(l, &s[..], root, first, end, ids)?;
-    let boundary = prune_edge::find_edge(l, &s[..], prefix.path, prefix.used, prefix.left);
-    prune_cut::prune_edge(h, s, end, prefix.entries, boundary)
+    prune_named(h, s, end, prefix)
 }
 
 // On an open store, with ids and rows.

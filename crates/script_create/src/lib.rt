@@ -2,7 +2,7 @@
 
 #![tactic(auto)]
 
-ghost use Rattle.std.specs.Prelude.{◌≡◌, length};
+ghost use Rattle.std.specs.Prelude.{◌≡◌, ◌≤◌, length};
 ghost use Rattle.answer_numbers.specs.Numbers.{answer_of};
 ghost use Rattle.script_records.specs.Records as R;
 ghost use Rattle.script_calls.specs.Calls.{create_length, if_accepted, perform};
@@ -15,14 +15,14 @@ use script_calls::Progress;
 
 // The words that a create gets, of so many.
 pub fn create_length(all: usize, capacity: u64, nodes: u64) -> usize
-    ensures { result ≡ create_length all capacity nodes }
+    ensures is { result ≡ create_length all capacity nodes }
+    ensures few { result ≤ all }
 {
     let l = Layout {
         capacity,
         pool: nodes,
     };
-    let good = l.in_range();
-    if !good {
+    if !l.in_range() {
         return all;
     }
     let len = l.store_length() as usize;

@@ -5,6 +5,7 @@
 #![tactic(auto)]
 
 ghost use Rattle.std.specs.Prelude.{◌≤◌, length, IsTrue};
+ghost use Rattle.script_encode.specs.declared.TheConstants.{MAX_NUMBERS};
 
 use std::io::{BufRead, BufReader};
 use std::{fmt, io};
@@ -40,7 +41,7 @@ impl Call {
 
     // Whether it takes so many numbers. A prune takes two, and then page ids.
     fn takes(self, count: usize) -> bool
-        ensures { IsTrue result → count ≤ 511 }
+        ensures { IsTrue result → count ≤ MAX_NUMBERS }
     {
         match self {
             Call::Create => count == 3,
@@ -105,7 +106,7 @@ impl fmt::Display for Fault<'_> {
 struct Asked<'a> {
     call: Call,
     numbers: &'a [u64],
-    ghost fits: { length numbers.now ≤ 511 },
+    ghost fits: { length numbers.now ≤ MAX_NUMBERS },
 }
 
 // What a line asks for; nothing where it has no word.

@@ -4,7 +4,7 @@ ghost use Rattle.std.specs.Prelude.{◌≡◌, ◌+◌, ◌≤◌, length};
 ghost use Rattle.script_text.specs.Lines.{Puts};
 ghost use Rattle.script_input.specs.Names.{name_of};
 
-// Nothing for another kind.
+// Nothing for another kind. By its number, as the record's bytes have it and `name_of` does.
 #[tactic(auto, unfolding(crate::specs::Names::name_of))]
 fn name(kind: u64) -> &'static [u8]
     ensures is { result.now ≡ name_of kind }

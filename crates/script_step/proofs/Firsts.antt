@@ -1,25 +1,22 @@
 -- What the first record of some bytes asks for.
-use Prim.Native.Nat.{ℕ, ◌+◌, ◌-◌, ◌≤◌}
+use Prim.Native.Nat.{ℕ, ◌+◌, ◌-◌}
 use mathlib.Core.Path.{◌≡◌, sym, ◌∙◌}
 use mathlib.Core.List.{List}
 use native.Mathlib.Omega.{arith}
-use lib.ListN.{length, take, drop, length-take}
+use lib.ListN.{take, drop}
 use Rattle.script_records.specs.Records.{Request, Bad, first, asked}
 use Rattle.script_records.specs.Read.{head_of}
-use Rattle.script_records.specs.declared.Head.TheVariants as H
+use Rattle.std.specs.Prelude.{Some, None}
 use Rattle.script_records.proofs.Heads.{wholly, badly}
 
-pub first-bad : (bs : List ℕ) → H.Bad ≡ head_of bs → first bs ≡ Bad
+pub first-bad : (bs : List ℕ) → None ≡ head_of bs → first bs ≡ Bad
 unfolding first
 first-bad bs e = rw (badly bs e)
 
-first-whole : (bs : List ℕ) (n : ℕ) → H.Whole n ≡ head_of bs → first bs ≡ asked (take n (drop 4 bs))
+first-whole : (bs : List ℕ) (n : ℕ) → Some n ≡ head_of bs → first bs ≡ asked (take n (drop 4 bs))
 unfolding first
 first-whole bs n e = let w = wholly bs n e in rw (w.whole, w.is)
 
 -- the body as it is cut out, and what it was found to ask for
-pub first-meant : (bs : List ℕ) (n : ℕ) → H.Whole n ≡ head_of bs → (x : Request) → x ≡ asked (take (4 + n - 4) (drop 4 bs)) → first bs ≡ x
+pub first-meant : (bs : List ℕ) (n : ℕ) → Some n ≡ head_of bs → (x : Request) → x ≡ asked (take (4 + n - 4) (drop 4 bs)) → first bs ≡ x
 first-meant bs n h x e = let k : 4 + n - 4 ≡ n = omega arith in first-whole bs n h ∙ sym (rw k at e)
-
-pub body_short : (bs : List ℕ) (n : ℕ) → H.Whole n ≡ head_of bs → length (take (4 + n - 4) (drop 4 bs)) ≤ 4096
-body_short bs n h = omega (arith, length-take (4 + n - 4) (drop 4 bs), (wholly bs n h).short)

@@ -14,14 +14,14 @@ ghost use Rattle.script_calls.specs.Steps.{Does, memory};
 use script_calls::Progress;
 use script_create;
 use script_prune;
-use script_records::{Head, Record};
+use script_records::Record;
 use script_walk;
 
 // Whatever a record asks for, with its body.
 fn perform_record(
     s: &mut [u64],
     used: usize,
-    asked: Record,
+    asked: Option<Record>,
     body: &[u8],
     out: &mut [u8],
     at: usize,
@@ -30,15 +30,19 @@ fn perform_record(
     ensures { Does (perform (memory s.old used) (meant body.now asked)) out.old at s.new out.new result }
 {
     match asked {
-        Record::Create(capacity, nodes, start) => {
+        Some(Record::Create(capacity, nodes, start)) => {
             script_create::create_step(s, used, capacity, nodes, start, out, at)
         }
-        Record::Append(count, page) => script_calls::append_step(s, used, count, page, out, at),
-        Record::Find(row) => script_calls::find_step(&s[..], used, row, out, at),
-        Record::Prune(start, end) => script_prune::prune_step(s, used, start, end, body, out, at),
-        Record::Walk(row) => script_walk::walk_step(&s[..], used, row, out, at),
-        Record::Release(pivot) => script_calls::release_step(s, used, pivot, out, at),
-        Record::Bad => script_calls::bad_step(used, out, at),
+        Some(Record::Append(count, page)) => {
+            script_calls::append_step(s, used, count, page, out, at)
+        }
+        Some(Record::Find(row)) => script_calls::find_step(&s[..], used, row, out, at),
+        Some(Record::Prune(start, end)) => {
+            script_prune::prune_step(s, used, start, end, body, out, at)
+        }
+        Some(Record::Walk(row)) => script_walk::walk_step(&s[..], used, row, out, at),
+        Some(Record::Release(pivot)) => script_calls::release_step(s, used, pivot, out, at),
+        None => script_calls::bad_step(used, out, at),
     }
 }
 
@@ -47,15 +51,12 @@ pub fn step(s: &mut [u64], used: usize, bytes: &[u8], out: &mut [u8], at: usize)
     requires { used ≤ length s.old }
     ensures { Does (perform (memory s.old used) (first bytes.now)) out.old at s.new out.new result }
 {
-    match script_records::read_head(bytes) {
-        Head::Bad => script_calls::bad_step(used, out, at),
-        Head::Whole(len) => {
-            let end = 4 + len;
-            let body = &bytes[4..end];
-            let asked = script_records::read_body(body);
-            perform_record(s, used, asked, body, out, at)
-        }
-    }
+    let Some(len) = script_records::read_head(bytes) else {
+        return script_calls::bad_step(used, out, at);
+    };
+    let body = &bytes[4..4 + len];
+    let asked = script_records::read_body(body);
+    perform_record(s, used, asked, body, out, at)
 }
 
 // The last line.

@@ -33,10 +33,10 @@ pub fn release(rt: &impl Print, s: &mut [u64], pivot: RowID, most: usize) -> io:
     let len = most.min(pages.len());
     let answer = call_release::destroy(s, pivot, &mut pages[..len]);
     store_print::print_answer(rt, b"release", b"release", answer)?;
-    if let Ok(released) = answer {
-        if let Some(given) = pages.get(..released.pages as usize) {
-            println!(rt; "pages{}", List(given))?;
-        }
+    if let Ok(released) = answer
+        && let Some(given) = pages.get(..released.pages as usize)
+    {
+        println!(rt; "pages{}", List(given))?;
     }
     Ok(())
 }
@@ -81,10 +81,10 @@ pub fn next(
     most: usize,
 ) -> io::Result<()> {
     let mut records = [PageEntry::new(RowID(0), PageID(0)); 4094];
-    if let Some(leaf) = step(rt, s, cursor, &mut records, most)? {
-        if let Some(entries) = records.get(..leaf.count as usize) {
-            println!(rt; "entries{}", Entries(entries))?;
-        }
+    if let Some(leaf) = step(rt, s, cursor, &mut records, most)?
+        && let Some(entries) = records.get(..leaf.count as usize)
+    {
+        println!(rt; "entries{}", Entries(entries))?;
     }
     Ok(())
 }

@@ -45,9 +45,9 @@ impl Session {
     }
 
     // The words that a call is lent.
-    fn lent(&mut self) -> &mut [u64] {
-        let len = self.words.min(WORDS);
-        &mut self.all[..len]
+    fn lent(&mut self) -> Result<&mut [u64], Wrong<'static>> {
+        let len = self.words;
+        self.all.get_mut(..len).ok_or(Wrong::TooManyWords)
     }
 
     // A create that is done decides how many words later calls are lent.
@@ -97,30 +97,30 @@ impl Session {
             (Kind::Create, &[capacity, nodes, start]) => {
                 self.create(rt, capacity, nodes, RowID(start))?;
             }
-            (Kind::Append, &[count, page]) => call::append(rt, self.lent(), count, PageID(page))?,
-            (Kind::Find, &[row]) => call::find(rt, self.lent(), RowID(row))?,
+            (Kind::Append, &[count, page]) => call::append(rt, self.lent()?, count, PageID(page))?,
+            (Kind::Find, &[row]) => call::find(rt, self.lent()?, RowID(row))?,
             (Kind::Prune, &[start, end, ref pages @ ..]) => {
-                call::prune(rt, self.lent(), RowID(start), RowID(end), pages)?;
+                call::prune(rt, self.lent()?, RowID(start), RowID(end), pages)?;
             }
             (Kind::Release, &[pivot]) => {
                 let most = self.list;
-                call::release(rt, self.lent(), RowID(pivot), most)?;
+                call::release(rt, self.lent()?, RowID(pivot), most)?;
             }
-            (Kind::ReleaseEmpty, &[]) => call::release_empty(rt, self.lent())?,
+            (Kind::ReleaseEmpty, &[]) => call::release_empty(rt, self.lent()?)?,
             (Kind::Check, &[]) => {
-                store_print::print_checked(rt, call_check::full_check(self.lent()))?;
+                store_print::print_checked(rt, call_check::full_check(self.lent()?))?;
             }
             (Kind::Seek, &[row]) => {
                 call_next::seek(&mut self.cursor, RowID(row));
                 println!(rt; "seek")?;
             }
             (Kind::Next, &[]) => {
-                let len = self.words.min(WORDS);
-                call::next(rt, &self.all[..len], &mut self.cursor, self.list)?;
+                let s = self.all.get(..self.words).ok_or(Wrong::TooManyWords)?;
+                call::next(rt, s, &mut self.cursor, self.list)?;
             }
             (Kind::Walk, &[row]) => {
                 let most = self.list;
-                call::walk(rt, self.lent(), RowID(row), most)?;
+                call::walk(rt, self.lent()?, RowID(row), most)?;
             }
             (Kind::Cursor, &[]) => {
                 let done = u64::from(self.cursor.done);
@@ -137,34 +137,29 @@ impl Session {
                 println!(rt; "list")?;
             }
             (Kind::Set, &[place, value]) => {
-                tool::load(self.lent(), place, &[value])?;
+                tool::load(self.lent()?, place, &[value])?;
                 println!(rt; "set")?;
             }
             (Kind::Put, &[node, place, value]) => {
-                tool::put(self.lent(), node, place, value)?;
+                tool::put(self.lent()?, node, place, value)?;
                 println!(rt; "put")?;
             }
             (Kind::Fill, &[value]) => {
-                self.lent().fill(value);
+                self.lent()?.fill(value);
                 println!(rt; "fill")?;
             }
-            (Kind::Load, &[place, _, ..]) => {
-                tool::load(self.lent(), place, &asked.numbers[1..])?;
+            (Kind::Load, &[place, ref words @ ..]) if !words.is_empty() => {
+                tool::load(self.lent()?, place, words)?;
                 println!(rt; "load")?;
             }
             (Kind::Dump, &[]) => {
-                let s = self.lent();
-                let end = s.len();
-                tool::dump(rt, s, 0, end)?;
+                let s = self.lent()?;
+                tool::dump(rt, s, 0, s.len() as u64)?;
             }
-            (Kind::Dump, &[from, many]) => {
-                let s = self.lent();
-                let end = tool::end_of(s, from, many)?;
-                tool::dump(rt, s, from as usize, end)?;
-            }
-            (Kind::Chain, &[]) => tool::print_chain(rt, self.lent())?,
-            (Kind::Shape, &[]) => store_picture::shape(rt, self.lent())?,
-            (Kind::Picture, &[]) => store_picture::picture(rt, self.lent())?,
+            (Kind::Dump, &[from, many]) => tool::dump(rt, self.lent()?, from, many)?,
+            (Kind::Chain, &[]) => tool::print_chain(rt, self.lent()?)?,
+            (Kind::Shape, &[]) => store_picture::shape(rt, self.lent()?)?,
+            (Kind::Picture, &[]) => store_picture::picture(rt, self.lent()?)?,
             (kind, numbers) => {
                 return Err(Failure::Wrong(Wrong::Count {
                     name: asked.name,

@@ -1,6 +1,6 @@
 // What is done to the words of a store without a call.
 
-use crate::wrong::Wrong;
+use crate::wrong::{Failure, Wrong};
 use model::answer::Refusal;
 use node_read::header;
 use std::io;
@@ -18,23 +18,17 @@ pub fn put(s: &mut [u64], n: u64, j: u64, x: u64) -> Result<(), Wrong<'static>> 
     words::put(s, n, j, x).ok_or(Wrong::NoSuchNode)
 }
 
-// The words between two places, eight to a line: each line loads them again.
-pub fn dump(rt: &impl Print, s: &[u64], from: usize, to: usize) -> io::Result<()> {
-    for at in (from..to).step_by(8) {
-        let end = to.min(at.saturating_add(8));
-        if let Some(words) = s.get(at..end) {
-            println!(rt; "load {at}{}", List(words))?;
-        }
+// The words from a place on, so many, eight to a line: each line loads them again.
+pub fn dump(rt: &impl Print, s: &[u64], from: u64, many: u64) -> Result<(), Failure<'static>> {
+    let end = match from.checked_add(many) {
+        Some(end) if end <= s.len() as u64 => end as usize,
+        _ => return Err(Failure::Wrong(Wrong::NoSuchWord)),
+    };
+    let from = from as usize;
+    for (at, words) in (from..end).step_by(8).zip(s[from..end].chunks(8)) {
+        println!(rt; "load {at}{}", List(words))?;
     }
     Ok(())
-}
-
-// The place after so many words from a place on.
-pub fn end_of(s: &[u64], from: u64, many: u64) -> Result<usize, Wrong<'static>> {
-    match from.checked_add(many) {
-        Some(end) if end <= s.len() as u64 => Ok(end as usize),
-        _ => Err(Wrong::NoSuchWord),
-    }
 }
 
 // The chain's line, of a closed store too; or the refusal for its header.

@@ -23,9 +23,8 @@ fn draw(rt: &impl Print, s: &[u64], node: Node) -> io::Result<()> {
     for _ in 0..node.level {
         print!(rt; "  ")?;
     }
-    print!(rt; "#{n} height {height}")?;
     print!(rt;
-        " rows {}..{}",
+        "#{n} height {height} rows {}..{}",
         Row(words::part(s, n, 2)),
         Row(words::part(s, n, 3))
     )?;
@@ -102,13 +101,10 @@ fn draw_parts(rt: &impl Print, s: &[u64]) -> io::Result<()> {
 }
 
 pub fn picture(rt: &impl Print, s: &[u64]) -> io::Result<()> {
-    print!(rt;
-        "store of {} words, capacity {}",
-        s.len(),
-        words::word(s, 0)
-    )?;
     println!(rt;
-        ", nodes {}, root #{}",
+        "store of {} words, capacity {}, nodes {}, root #{}",
+        s.len(),
+        words::word(s, 0),
         words::word(s, 1),
         words::word(s, 2)
     )?;

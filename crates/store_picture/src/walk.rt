@@ -4,12 +4,13 @@ ghost use Rattle.std.specs.Prelude.{◌≤◌, ◌<◌};
 ghost use Rattle.std.specs.Iterator.{at_most};
 
 use crate::words;
+use arrayvec::ArrayVec;
 use model::node::RowPageIndexNodeHeader;
 use std::iter;
 
 // A node: its level below the root, the height that it should have, the row of the entry that leads to it, and the row of the next
 // entry on the path to it, where there is one.
-#[derive(Clone, Copy)]
+#[derive(Clone, Copy, Default)]
 pub struct Node {
     pub number: u64,
     pub level: usize,
@@ -19,7 +20,7 @@ pub struct Node {
 }
 
 // A node on a path, and the next of its entries to follow.
-#[derive(Clone, Copy)]
+#[derive(Clone, Copy, Default)]
 struct Place {
     node: Node,
     index: u64,
@@ -27,32 +28,30 @@ struct Place {
 
 // The nodes below the root in reading order, at most P with the root, at most 32 deep, with at most C entries each. A node takes
 // a turn for each of its entries and one more, so all of them take fewer than the store has words.
-#[derive(Clone, Copy)]
+#[derive(Drop)]
 pub struct Below<'a> {
     words: &'a [u64],
     // of the root
     height: u64,
-    // the path, as long as it is deep
-    places: [Place; 32],
-    depth: usize,
+    path: ArrayVec<Place, 32>,
     visited: u64,
     turns: u64,
     ghost is_low: { height ≤ 31 },
-    ghost on_path: { depth ≤ 32 },
 }
 
 impl<'a> Below<'a> {
     fn new(words: &'a [u64], root: Node) -> Below<'a>
         requires { root.height ≤ 31 }
     {
+        let mut path = ArrayVec::new();
+        path.push(Place {
+            node: root,
+            index: 0,
+        });
         Below {
             words,
             height: root.height,
-            places: [Place {
-                node: root,
-                index: 0,
-            }; 32],
-            depth: 1,
+            path,
             visited: 1,
             turns: 65536,
         }
@@ -69,14 +68,15 @@ impl Iterator for Below<'_> {
         let pool = words::word(s, 1);
         while 0 < self.turns {
             self.turns -= 1;
-            let at = self.depth.checked_sub(1)?;
-            let top = self.places[at];
+            let level = self.path.len();
+            let place = self.path.last_mut()?;
+            let top = *place;
             let n = top.node.number;
-            if self.height <= at as u64 || words::entries(s, n) <= top.index {
-                self.depth = at;
+            if self.height < level as u64 || words::entries(s, n) <= top.index {
+                self.path.pop();
                 continue;
             }
-            self.places[at].index += 1;
+            place.index += 1;
             let child = words::child(s, n, top.index);
             if pool <= child {
                 continue;
@@ -87,13 +87,13 @@ impl Iterator for Below<'_> {
             self.visited += 1;
             let node = Node {
                 number: child,
-                level: self.depth,
-                height: self.height - self.depth as u64,
+                level,
+                height: self.height - level as u64,
                 row: words::row(s, n, top.index),
                 next: next_row(s, top),
             };
-            self.places[self.depth] = Place { node, index: 0 };
-            self.depth += 1;
+            // the path is never full: level is at most 31
+            self.path.try_push(Place { node, index: 0 }).ok()?;
             return Some(node);
         }
         None

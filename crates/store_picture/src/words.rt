@@ -1,6 +1,6 @@
 // The words of any store, read and changed by place: nothing is refused but a place that is not lent.
 
-ghost use Rattle.std.specs.Prelude.{◌≤◌};
+ghost use Rattle.std.specs.Prelude.{◌≡◌, ◌≤◌, length, IsNone};
 
 use model::id::NodeNo;
 use node_read::layout::Layout;
@@ -54,15 +54,23 @@ pub fn child(s: &[u64], n: u64, i: u64) -> u64 {
 }
 
 // Words from place i on become these. None where one of them has no place; then none changes.
-pub fn load(s: &mut [u64], i: usize, words: &[u64]) -> Option<()> {
-    s.get_mut(i..)?
-        .get_mut(..words.len())?
-        .copy_from_slice(words);
+pub fn load(s: &mut [u64], i: usize, words: &[u64]) -> Option<()>
+    ensures length { length s.new ≡ length s.old }
+    ensures none { IsNone result → s.new ≡ s.old }
+{
+    let end = i.checked_add(words.len())?;
+    if s.len() < end {
+        return None;
+    }
+    s[i..end].copy_from_slice(words);
     Some(())
 }
 
 // Word j of node n becomes x. None where there is no such word.
-pub fn put(s: &mut [u64], n: u64, j: u64, x: u64) -> Option<()> {
+pub fn put(s: &mut [u64], n: u64, j: u64, x: u64) -> Option<()>
+    ensures length { length s.new ≡ length s.old }
+    ensures none { IsNone result → s.new ≡ s.old }
+{
     let i = place_of(s, n, j)?;
     load(s, i, &[x])
 }

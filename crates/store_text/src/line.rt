@@ -22,31 +22,30 @@ pub fn read_line<'a, R: BufRead>(
     for _ in 0..u64::MAX {
         let block = reader.fill_buf().unwrap_or(&[]);
         if block.is_empty() {
+            if len == 0 {
+                return None;
+            }
             break;
         }
         let end = block.iter().position(|&byte| byte == b'\n');
         let part = &block[..end.unwrap_or(block.len())];
         put(buffer, len, part);
         len = len.saturating_add(part.len());
-        let used = part.len();
-        if end.is_some() {
-            reader.consume(used + 1);
-            return Some(buffer.get(..len).ok_or(TooLong));
-        }
+        let used = part.len() + usize::from(end.is_some());
         reader.consume(used);
-    }
-    if len == 0 {
-        return None;
+        if end.is_some() {
+            break;
+        }
     }
     Some(buffer.get(..len).ok_or(TooLong))
 }
 
 // Bytes from a place on become these, where there is room for all of them.
 fn put(buffer: &mut [u8], at: usize, bytes: &[u8]) {
-    if let Some(rest) = buffer.get_mut(at..) {
-        if let Some(place) = rest.get_mut(..bytes.len()) {
-            place.copy_from_slice(bytes);
-        }
+    if let Some(rest) = buffer.get_mut(at..)
+        && let Some(place) = rest.get_mut(..bytes.len())
+    {
+        place.copy_from_slice(bytes);
     }
 }
 

@@ -2,7 +2,6 @@ use mathlib.Core.Path.{refl, sym, ◌∙◌}
 use Rattle.std.proofs.lemmas.Result.{err_from_is_err_and}
 use Rattle.model.proofs.Order.{ne_holds, ne_fails}
 use Rattle.prune_list.specs.Named.{Ending}
-use Rattle.prune_edge.specs.Found.{Finds}
 use Rattle.call_prune.proofs.Deciding.{at-bad, good, high, at_other, at-root, at-refused, at-entries}
 use Rattle.call_prune.proofs.prune_filled.Goals as goal
 
@@ -31,18 +30,14 @@ returns-in_err-prefix c =
     let e = at-refused _ _ _ _ a.start.0 a.end.0 a.ids.now c.header-head.ensures c.requires.root_value (sym c.is_in_height.ensures ∙ c.if-not-is_in_height.false) (sym c.test_node.ensures ∙ c.in-Some.is) (ne_fails _ _ (sym c.ne.ensures ∙ c.if-ne.false)) c.in_err-prefix.ensures.answer c.in_err-prefix.field-0.0 refl in
     record { answer = rw (p.1, p.2, e); words = rw e }
 
-pub find_edge-boundary-requires : goal.find_edge-boundary-requires
+pub prune_named-requires : goal.prune_named-requires
 unfolding Ending
-find_edge-boundary-requires c = record { fits = c.requires.in_open.header; given = (c.args.end.0, c.args.h.root.0, c.in_ok-prefix.ensures.edge) }
-
-pub prune_edge-requires : goal.prune_edge-requires
-unfolding Ending Finds
-prune_edge-requires c =
+prune_named-requires c =
     let a = c.args in
-    (at-root _ _ _ _ a.start.0 a.end.0 a.ids.now c.header-head.ensures c.requires.root_value (sym c.is_in_height.ensures ∙ c.if-not-is_in_height.false) (sym c.test_node.ensures ∙ c.in-Some.is) _ c.requires.in_open, c.find_edge-boundary.ensures a.end.0 a.h.root.0 c.in_ok-prefix.ensures.edge)
+    record { rooted_in = at-root _ _ _ _ a.start.0 a.end.0 a.ids.now c.header-head.ensures c.requires.root_value (sym c.is_in_height.ensures ∙ c.if-not-is_in_height.false) (sym c.test_node.ensures ∙ c.in-Some.is) _ c.requires.in_open; ended = c.in_ok-prefix.ensures.edge }
 
 pub returns : goal.returns
 returns c =
     let a = c.args in
     let e = at-entries _ _ _ _ a.start.0 a.end.0 a.ids.now c.header-head.ensures c.requires.root_value (sym c.is_in_height.ensures ∙ c.if-not-is_in_height.false) (sym c.test_node.ensures ∙ c.in-Some.is) (ne_fails _ _ (sym c.ne.ensures ∙ c.if-ne.false)) c.in_ok-prefix.ensures.answer c.in_ok-prefix.prefix refl in
-    record { answer = rw e c.prune_edge.ensures.answer; words = rw e c.prune_edge.ensures.words }
+    record { answer = rw e c.prune_named.ensures.answer; words = rw e c.prune_named.ensures.words }

@@ -18,4 +18,4 @@ returns c =
     let s = words_are a.words.now _ a.records.now _ _ c.next_words-step.ensures in
     let e : next_words_of a.words.now _ a.records.now ≡ next_words_of a.words.now (cursor_in a.cursor.now) a.records.now = ap (λ (c : RowPageIndexMemCursor). next_words_of a.words.now c a.records.now) c.cursor_in.ensures in
     let t = s.0 ∙ ap (λ (o : WordOutcome). o.answer) e in
-    record { cursor = c.cursor_out.ensures ∙ both a.cursor.now _ _ _ _ (s.1 ∙ ap (λ (o : WordOutcome). o.cursor) e) t; records = s.2 ∙ ap (λ (o : WordOutcome). o.words) e; answer = told c.next_leaf_numbers-n.ensures t c.tell.ensures }
+    record { cursor = c.cursor_out.ensures ∙ both a.cursor.now _ _ _ _ (s.1 ∙ ap (λ (o : WordOutcome). o.cursor) e) t; records = s.2 ∙ ap (λ (o : WordOutcome). o.words) e; answer = told c.from-n.ensures t c.tell.ensures }

@@ -1,4 +1,3 @@
-use Prim.Native.Nat.{◌<◌}
 use mathlib.Core.Bool.{false}
 use mathlib.Core.Path.{refl, sym, ◌∙◌}
 use native.Mathlib.Omega.{arith}
@@ -22,92 +21,52 @@ unfolding Ending
 returns-then-depth-eq0 c = record { answer = too_long c.loop-named.invariant c.loop-named-test.true c.if-depth-eq0.true; edge = tt }
 
 pub is_done-requires : goal.is_done-requires
-is_done-requires c =
-    let x = c.loop-named in
-    let z : 0 < x.path.depth = omega (arith, c.if-depth-eq0.false) in
-    record { fits = c.requires.fits; node_lt_pool = (placed x.invariant.held z).inside }
+is_done-requires c = record { fits = c.requires.fits; node_lt_pool = (placed c.loop-named.invariant.held (omega arith)).inside }
 
 pub loop-named-smaller-then-is_done : goal.loop-named-smaller-then-is_done
-loop-named-smaller-then-is_done c =
-    let x = c.loop-named in
-    let z : 0 < x.path.depth = omega (arith, c.if-depth-eq0.false) in
-    falls (turn_up x.invariant.held z (done-up x.invariant.held z (sym c.is_done.ensures ∙ c.if-is_done.true)) false)
+loop-named-smaller-then-is_done c = falls (turn_up c.loop-named.invariant.held (omega arith) (done-up c.loop-named.invariant.held (omega arith) (sym c.is_done.ensures ∙ c.if-is_done.true)) false)
 
 pub loop-named-preserved-then-is_done : goal.loop-named-preserved-then-is_done
-loop-named-preserved-then-is_done c =
-    let x = c.loop-named in
-    let z : 0 < x.path.depth = omega (arith, c.if-depth-eq0.false) in
-    rw c.add-left.ensures (scanning_up x.invariant c.loop-named-test.true z (done-up x.invariant.held z (sym c.is_done.ensures ∙ c.if-is_done.true)))
+loop-named-preserved-then-is_done c = rw c.add-left.ensures (scanning_up c.loop-named.invariant c.loop-named-test.true (omega arith) (done-up c.loop-named.invariant.held (omega arith) (sym c.is_done.ensures ∙ c.if-is_done.true)))
 
 pub tested-requires : goal.tested-requires
-tested-requires c =
-    let x = c.loop-named in
-    let z : 0 < x.path.depth = omega (arith, c.if-depth-eq0.false) in
-    record { fits = c.requires.fits; placed = (placed x.invariant.held z, not-false _ (sym c.is_done.ensures ∙ c.if-is_done.false)) }
+tested-requires c = record { fits = c.requires.fits; placed = (placed c.loop-named.invariant.held (omega arith), not-false _ (sym c.is_done.ensures ∙ c.if-is_done.false)) }
 
 pub returns-in_err-turned : goal.returns-in_err-turned
 unfolding Ending
 returns-in_err-turned c =
-    let x = c.loop-named in
-    let z : 0 < x.path.depth = omega (arith, c.if-depth-eq0.false) in
     let p = err_from_is_err_and c.from_residual.result c.from_residual.ensures.1 in
-    record { answer = rw (p.1, p.2) (scanning_bad x.invariant c.loop-named-test.true z c.in_err-turned.ensures); edge = rw p.1 tt }
+    record { answer = rw (p.1, p.2) (scanning_bad c.loop-named.invariant c.loop-named-test.true (omega arith) c.in_err-turned.ensures); edge = rw p.1 tt }
 
 pub turned-requires : goal.turned-requires
-turned-requires c =
-    let x = c.loop-named in
-    let z : 0 < x.path.depth = omega (arith, c.if-depth-eq0.false) in
-    omega (arith, short x.invariant.held z c.in_ok-turned.ensures, c.requires.fits.cap-high)
+turned-requires c = omega (arith, short c.loop-named.invariant.held (omega arith) c.in_ok-turned.ensures, c.requires.fits.cap-high)
 
 pub bounds-path-depth : goal.bounds-path-depth
-bounds-path-depth c =
-    let x = c.loop-named in
-    let z : 0 < x.path.depth = omega (arith, c.if-depth-eq0.false) in
-    omega (arith, room x.invariant.held z c.in_ok-turned.ensures)
+bounds-path-depth c = omega (arith, room c.loop-named.invariant.held (omega arith) c.in_ok-turned.ensures)
 
 pub bounds-nexts-depth : goal.bounds-nexts-depth
-bounds-nexts-depth c =
-    let x = c.loop-named in
-    let z : 0 < x.path.depth = omega (arith, c.if-depth-eq0.false) in
-    omega (arith, room x.invariant.held z c.in_ok-turned.ensures)
+bounds-nexts-depth c = omega (arith, room c.loop-named.invariant.held (omega arith) c.in_ok-turned.ensures)
 
 pub bounds-firsts-depth : goal.bounds-firsts-depth
-bounds-firsts-depth c =
-    let x = c.loop-named in
-    let z : 0 < x.path.depth = omega (arith, c.if-depth-eq0.false) in
-    omega (arith, room x.invariant.held z c.in_ok-turned.ensures)
+bounds-firsts-depth c = omega (arith, room c.loop-named.invariant.held (omega arith) c.in_ok-turned.ensures)
 
 pub scan_node-requires : goal.scan_node-requires
-scan_node-requires c =
-    let x = c.loop-named in
-    let z : 0 < x.path.depth = omega (arith, c.if-depth-eq0.false) in
-    record { fits = c.requires.fits; n_lt_pool = narrow x.invariant.held z c.in_ok-turned.ensures }
+scan_node-requires c = record { fits = c.requires.fits; n_lt_pool = narrow c.loop-named.invariant.held (omega arith) c.in_ok-turned.ensures }
 
 pub returns-in_err-more : goal.returns-in_err-more
 unfolding Ending
 returns-in_err-more c =
-    let x = c.loop-named in
-    let z : 0 < x.path.depth = omega (arith, c.if-depth-eq0.false) in
     let p = err_from_is_err_and c.from_residual-in_err-more.result c.from_residual-in_err-more.ensures.1 in
-    record { answer = rw (p.1, p.2) (scanning_stop x.invariant c.loop-named-test.true z c.in_ok-turned.turned.next c.in_ok-turned.ensures (refusal c.in_err-more.field-0.0) c.in_err-more.ensures); edge = rw p.1 tt }
+    record { answer = rw (p.1, p.2) (scanning_stop c.loop-named.invariant c.loop-named-test.true (omega arith) c.in_ok-turned.turned.next c.in_ok-turned.ensures (refusal c.in_err-more.field-0.0) c.in_err-more.ensures); edge = rw p.1 tt }
 
 pub overflow_sub-used : goal.overflow_sub-used
-overflow_sub-used c =
-    let x = c.loop-named in
-    let z : 0 < x.path.depth = omega (arith, c.if-depth-eq0.false) in
-    scanning_on x.invariant c.loop-named-test.true z c.in_ok-turned.turned.next c.in_ok-turned.ensures _ _ c.in_ok-more.ensures
+overflow_sub-used c = scanning_on c.loop-named.invariant c.loop-named-test.true (omega arith) c.in_ok-turned.turned.next c.in_ok-turned.ensures _ _ c.in_ok-more.ensures
 
 pub loop-named-smaller : goal.loop-named-smaller
-loop-named-smaller c =
-    let x = c.loop-named in
-    let z : 0 < x.path.depth = omega (arith, c.if-depth-eq0.false) in
-    rw (c.entered.ensures, c.turned.ensures) (falls (turn-down x.invariant.held z c.in_ok-turned.ensures false refl))
+loop-named-smaller c = rw (c.entered.ensures, c.turned.ensures) (falls (turn-down c.loop-named.invariant.held (omega arith) c.in_ok-turned.ensures false refl))
 
 pub loop-named-preserved : goal.loop-named-preserved
-loop-named-preserved c =
-    let x = c.loop-named in
-    let z : 0 < x.path.depth = omega (arith, c.if-depth-eq0.false) in
-    rw (c.entered.ensures, c.turned.ensures) (scanning_down x.invariant c.loop-named-test.true z c.in_ok-turned.turned.next c.in_ok-turned.ensures _ _ c.in_ok-more.ensures)
+loop-named-preserved c = rw (c.entered.ensures, c.turned.ensures) (scanning_down c.loop-named.invariant c.loop-named-test.true (omega arith) c.in_ok-turned.turned.next c.in_ok-turned.ensures _ _ c.in_ok-more.ensures)
 
 pub returns-in_err-entries : goal.returns-in_err-entries
 unfolding Ending

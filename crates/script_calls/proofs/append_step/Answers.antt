@@ -3,9 +3,6 @@ use mathlib.Core.Path.{sym, ◌∙◌}
 use Rattle.script_calls.proofs.Performing.{appends}
 use Rattle.script_calls.proofs.append_step.Goals as goal
 
-pub slice_bounds-insert_row_page-end-2 : goal.slice_bounds-insert_row_page-end-2
-slice_bounds-insert_row_page-end-2 c = let s = c.args in sym (length-take-le s.used s.s.now c.requires)
-
 pub returns : goal.returns
 returns c =
     let x = c.args in

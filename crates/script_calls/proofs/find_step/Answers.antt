@@ -4,9 +4,6 @@ use mathlib.Core.List.{[]}
 use Rattle.script_calls.proofs.Performing.{finds}
 use Rattle.script_calls.proofs.find_step.Goals as goal
 
-pub slice_bounds-try_find_row-end : goal.slice_bounds-try_find_row-end
-slice_bounds-try_find_row-end c = let s = c.args in sym (length-take-le s.used s.s.now c.requires)
-
 pub returns : goal.returns
 returns c =
     let x = c.args in

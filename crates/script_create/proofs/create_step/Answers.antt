@@ -5,14 +5,8 @@ use native.Mathlib.Omega.{arith}
 use Rattle.script_calls.proofs.Performing.{creates, within}
 use Rattle.script_create.proofs.create_step.Goals as goal
 
-pub slice_bounds-new-end : goal.slice_bounds-new-end
-slice_bounds-new-end c = let x = c.args in omega (arith, c.create_length-len.ensures, within (length x.s.now) x.capacity x.nodes)
-
-pub slice_bounds-new-end-2 : goal.slice_bounds-new-end-2
-slice_bounds-new-end-2 c = let x = c.args in sym (length-take-le _ x.s.now (omega (arith, c.create_length-len.ensures, within (length x.s.now) x.capacity x.nodes)))
-
 pub returns : goal.returns
 returns c =
     let x = c.args in
     let r = c.new-a.ensures in
-    creates x.s.now x.out.now x.used _ _ _ _ _ _ _ _ _ _ c.create_length-len.ensures (c.from-n.ensures.answer ∙ r.answer) r.words c.used_after.ensures c.put_answer-place.ensures
+    creates x.s.now x.out.now x.used _ _ _ _ _ _ _ _ _ _ c.create_length-len.ensures.is (c.from-n.ensures.answer ∙ r.answer) r.words c.used_after.ensures c.put_answer-place.ensures

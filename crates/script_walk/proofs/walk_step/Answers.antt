@@ -3,9 +3,6 @@ use lib.Seq.{length-take-le}
 use Rattle.script_calls.proofs.Performing.{walks}
 use Rattle.script_walk.proofs.walk_step.Goals as goal
 
-pub slice_bounds-walk_on-end : goal.slice_bounds-walk_on-end
-slice_bounds-walk_on-end c = sym (length-take-le c.args.used c.args.s.now c.requires)
-
 pub returns : goal.returns
 returns c =
     let x = c.args in

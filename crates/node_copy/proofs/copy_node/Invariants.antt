@@ -1,0 +1,8 @@
+use Prim.Native.Nat.{◌-◌}
+use mathlib.Core.Path.{◌≡◌}
+use Rattle.model.specs.Words.{copy_from}
+use Rattle.node_read.specs.Layout.{shape_of, Fits}
+use Rattle.node_copy.proofs.copy_node.Given as goal
+
+abbrev pub invariant-loop-j : goal.invariant-loop-j
+invariant-loop-j l = Fits l.l l.s × (copy_from (shape_of l.l) l.initial.s l.from.0 l.to.0 0 l.size ≡ copy_from (shape_of l.l) l.s l.from.0 l.to.0 l.j (l.size - l.j))
