@@ -5,7 +5,7 @@ use mathlib.Core.Bool.{Bool, true, false}
 use mathlib.Core.Path.{◌≡◌, refl, sym, ap, ◌∙◌}
 use native.Mathlib.Omega.{arith}
 use lib.Dec.{leb}
-use borrow.Author.Tests.{not-false}
+use borrow.Author.Tests.{not-false, le-ltb}
 use lib.ListN.{set, replicate}
 use Rattle.model.specs.Words.{Shape, height, start, end, max_height}
 use Rattle.model.specs.Tree.{Open, node_at, empty_root}
@@ -26,7 +26,7 @@ use Rattle.tree_turn.proofs.InPlace.{rooted-left}
 use Rattle.tree_turn.proofs.Turns.{falls, by_ends, Held, turn_at, start-held, placed, done-up, turn_up, held_up, turn-bad, room, short, narrow, turn-down, turn-wrong, held_down}
 use Rattle.tree_tally.specs.Tally.{counted, tally}
 use Rattle.tree_tally.specs.declared.Counts.{Counts}
-use Rattle.tree_survey.specs.Ends.{first_of, wrong_end, with_ends}
+use Rattle.tree_survey.specs.Ends.{first_of, wrong_end, with_ends, wrong_of}
 use Rattle.tree_survey.proofs.FromRoot.{from-bad, from-good}
 
 -- a node that is told of after a wrong end is not told
@@ -104,4 +104,9 @@ from-both C P w n k e h i s =
 
 pub ruleset below_turns = (start-both, both-done, both-up, both-bad, both-down, falls, placed, done-up, turn_up, room, short, narrow, turn-down, not-false)
 
-pub ruleset both_roots = (from-both)
+-- number P is no wrong end
+pub no_wrong : (P : ℕ) → wrong_of P P ≡ None
+unfolding wrong_of
+no_wrong P = rw (le-ltb P P (omega arith))
+
+pub ruleset both_roots = (from-both, no_wrong)

@@ -1,5 +1,5 @@
 -- The reading with ends, beside the one without.
-use Rattle.std.specs.Prelude.{ℕ, List, Option, Some, None, Result, Err}
+use Rattle.std.specs.Prelude.{ℕ, List, Option, Some, None, Result, Err, ltb}
 use Rattle.model.specs.Words.{Shape, pick, height, end}
 use Rattle.model.specs.Tree.{Limit}
 use Rattle.model.specs.Reading.{end_fits}
@@ -20,3 +20,7 @@ wrong_end C w n b m = pick (end_fits (height C w n) b (end C w n)) m (first_of m
 abbrev pub with_ends : Option NodeNo → Result Counts UnsoundNode → Result Counts UnsoundNode
 with_ends None t = t
 with_ends (Some m) t = Err (record { 0 = m })
+
+-- a wrong end as the walk keeps it: a node number, P where there is none
+unfoldable pub wrong_of : ℕ → ℕ → Option NodeNo
+wrong_of P m = pick (ltb m P) (Some (record { 0 = m })) None

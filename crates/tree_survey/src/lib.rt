@@ -12,7 +12,7 @@ ghost use Rattle.node_test.specs.Test.{limit_of};
 ghost use Rattle.tree_turn.specs.Left.{Valid, below};
 ghost use Rattle.tree_turn.specs.Turn.{out_of};
 ghost use Rattle.tree_tally.specs.Tally.{no_counts, tally};
-ghost use Rattle.tree_survey.specs.Ends.{wrong_end, with_ends};
+ghost use Rattle.tree_survey.specs.Ends.{wrong_end, with_ends, wrong_of};
 
 use model::answer::UnsoundNode;
 use model::id::{NodeNo, RowID};
@@ -32,33 +32,37 @@ pub struct Surveys {
     pub ends: Result<Counts, UnsoundNode>,
 }
 
-// The first branch whose end is wrong, once sound node n was looked at.
-#[tactic(auto, unfolding(crate::specs::Ends::wrong_end))]
-fn look_at_end(
-    l: Layout,
-    s: &[u64],
-    n: NodeNo,
-    next: Option<RowID>,
-    wrong: Option<NodeNo>,
-) -> Option<NodeNo>
+// The first branch whose end is wrong, once sound node n was looked at. Number P stands for none: with an Option, two words that
+// are kept from turn to turn, the full check took 5 % longer at C = 2.
+#[tactic(auto, unfolding(crate::specs::Ends::wrong_end, crate::specs::Ends::wrong_of))]
+fn look_at_end(l: Layout, s: &[u64], n: NodeNo, next: Option<RowID>, wrong: NodeNo) -> NodeNo
     requires fits { Fits l s.now }
     requires n_lt_pool { n.0 < l.pool }
-    ensures { result ≡ wrong_end (shape_of l) s.now n.0 (limit_of next) wrong }
+    ensures { wrong_of l.pool result.0 ≡ wrong_end (shape_of l) s.now n.0 (limit_of next) (wrong_of l.pool wrong.0) }
 {
     let h = l.header(s, n);
     if tree_limit::end_fits(h.height, next, h.end_row_id) {
         return wrong;
     }
-    wrong.or(Some(n))
+    if wrong.0 < l.pool {
+        return wrong;
+    }
+    n
 }
 
 // Both readings, by the one without ends and the first wrong end before its last node.
-fn both(nodes: Result<Counts, UnsoundNode>, wrong: Option<NodeNo>) -> Surveys
+#[tactic(auto, unfolding(crate::specs::Ends::wrong_of))]
+fn both(l: Layout, nodes: Result<Counts, UnsoundNode>, wrong: NodeNo) -> Surveys
     ensures nodes { result.nodes ≡ nodes }
-    ensures ends { result.ends ≡ with_ends wrong nodes }
+    ensures ends { result.ends ≡ with_ends (wrong_of l.pool wrong.0) nodes }
 {
-    let ends = wrong.map_or(nodes, |n| Err(UnsoundNode(n)));
-    Surveys { nodes, ends }
+    if l.pool <= wrong.0 {
+        return Surveys { nodes, ends: nodes };
+    }
+    Surveys {
+        nodes,
+        ends: Err(UnsoundNode(wrong)),
+    }
 }
 
 // What is left below a node that was entered, with the counts and the first wrong end so far. The path is stored to in
@@ -70,13 +74,13 @@ fn survey_below(
     node: NodeNo,
     first: u64,
     start: Counts,
-    seen: Option<NodeNo>,
+    seen: NodeNo,
 ) -> Surveys
     requires fits { Fits l s.now }
     requires valid { Valid (shape_of l) l.pool s.now (height (shape_of l) s.now node.0) (entered node.0 ∷ []) }
     requires first_value { first ≡ out_of (shape_of l) l.pool s.now (height (shape_of l) s.now node.0) node.0 }
     ensures nodes { result.nodes ≡ tally (shape_of l) s.now (below false (shape_of l) l.pool s.now node.0) start }
-    ensures ends { result.ends ≡ with_ends seen (tally (shape_of l) s.now (below true (shape_of l) l.pool s.now node.0) start) }
+    ensures ends { result.ends ≡ with_ends (wrong_of l.pool seen.0) (tally (shape_of l) s.now (below true (shape_of l) l.pool s.now node.0) start) }
 {
     let mut path = Path::rooted(node);
     let mut nexts = [None; 32];
@@ -92,7 +96,7 @@ fn survey_below(
             continue;
         }
         match turn::tested(l, s, top, firsts[at], nexts[at]) {
-            Err(u) => return both(Err(u), wrong),
+            Err(u) => return both(l, Err(u), wrong),
             Ok(down) => {
                 path.positions[at] = top.turned();
                 path.positions[depth] = Position::entered(down.child);
@@ -104,7 +108,7 @@ fn survey_below(
             }
         }
     }
-    both(Ok(counts), wrong)
+    both(l, Ok(counts), wrong)
 }
 
 // Both readings of the whole tree from the root of an open store.
@@ -115,23 +119,24 @@ pub fn survey_both(l: Layout, s: &[u64], root: NodeNo) -> Surveys
     ensures nodes { result.nodes ≡ tally (shape_of l) s.now (root_visits false (shape_of l) l.pool s.now root.0) no_counts }
     ensures ends { result.ends ≡ tally (shape_of l) s.now (root_visits true (shape_of l) l.pool s.now root.0) no_counts }
 {
+    let none = NodeNo(l.pool);
     let zero = Counts {
         nodes: 0,
         leaves: 0,
         entries: 0,
     };
     if node_root::is_empty_root(l, s, root) {
-        return both(Ok(tree_tally::count_node(l, s, root, zero)), None);
+        return both(l, Ok(tree_tally::count_node(l, s, root, zero)), none);
     }
     let h = l.header(s, root);
     if !h.is_in_height() {
-        return both(Err(UnsoundNode(root)), None);
+        return both(l, Err(UnsoundNode(root)), none);
     }
     let Some(first) = node_test::test_node(l, s, root, h.height, h.start_row_id, None) else {
-        return both(Err(UnsoundNode(root)), None);
+        return both(l, Err(UnsoundNode(root)), none);
     };
     let counts = tree_tally::count_node(l, s, root, zero);
-    let wrong = look_at_end(l, s, root, None, None);
+    let wrong = look_at_end(l, s, root, None, none);
     survey_below(l, s, root, first, counts, wrong)
 }
 

@@ -4,12 +4,12 @@ use Rattle.node_read.specs.Layout.{shape_of}
 use Rattle.model.specs.Paths.{last_of}
 use Rattle.tree_turn.specs.Left.{below, left}
 use Rattle.tree_tally.specs.Tally.{tally}
-use Rattle.tree_survey.specs.Ends.{with_ends}
+use Rattle.tree_survey.specs.Ends.{with_ends, wrong_of}
 use Rattle.tree_survey.proofs.WithEnds.{Both}
 use Rattle.tree_survey.proofs.survey_below.Given as goal
 
 abbrev pub invariant-loop-path : goal.invariant-loop-path
-invariant-loop-path l = Both (shape_of l.l) l.l.pool l.s (tally (shape_of l.l) l.s (below false (shape_of l.l) l.l.pool l.s (last_of l.initial.path).node.0) l.initial.counts) (with_ends l.initial.wrong (tally (shape_of l.l) l.s (below true (shape_of l.l) l.l.pool l.s (last_of l.initial.path).node.0) l.initial.counts)) l.path l.nexts l.firsts l.counts l.wrong
+invariant-loop-path l = Both (shape_of l.l) l.l.pool l.s (tally (shape_of l.l) l.s (below false (shape_of l.l) l.l.pool l.s (last_of l.initial.path).node.0) l.initial.counts) (with_ends (wrong_of l.l.pool l.initial.wrong.0) (tally (shape_of l.l) l.s (below true (shape_of l.l) l.l.pool l.s (last_of l.initial.path).node.0) l.initial.counts)) l.path l.nexts l.firsts l.counts (wrong_of l.l.pool l.wrong.0)
 
 abbrev pub decreases-loop-path : goal.decreases-loop-path
 decreases-loop-path l = length (left false (shape_of l.l) l.l.pool l.s l.path)
