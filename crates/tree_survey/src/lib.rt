@@ -16,7 +16,7 @@ ghost use Rattle.tree_survey.specs.Ends.{wrong_end, with_ends, wrong_of};
 
 use model::answer::UnsoundNode;
 use model::id::{NodeNo, RowID};
-use model::path::{Path, Position};
+use model::path::Path;
 use node_read::layout::Layout;
 use node_root;
 use node_test;
@@ -90,17 +90,15 @@ fn survey_below(
     while 0 < path.depth {
         let depth = path.depth;
         let at = depth - 1;
-        let top = path.positions[at];
+        let top = path.last();
         if turn::is_done(l, s, top) {
-            path.depth = at;
+            path.leave();
             continue;
         }
         match turn::tested(l, s, top, firsts[at], nexts[at]) {
             Err(u) => return both(l, Err(u), wrong),
             Ok(down) => {
-                path.positions[at] = top.turned();
-                path.positions[depth] = Position::entered(down.child);
-                path.depth = depth + 1;
+                path.enter(down.child);
                 nexts[depth] = down.next;
                 firsts[depth] = down.first;
                 counts = tree_tally::count_node(l, s, down.child, counts);
