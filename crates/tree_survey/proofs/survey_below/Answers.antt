@@ -31,7 +31,7 @@ pub count_node-counts-requires-clause-n_lt_pool : goal.count_node-counts-require
 count_node-counts-requires-clause-n_lt_pool c = narrow c.loop-path.invariant.held c.loop-path-test.true (sym (ap turn_of c.in-Ok.is) ∙ rw c.last-top.ensures at c.tested.ensures)
 
 pub look_at_end-wrong-requires-clause-n_lt_pool : goal.look_at_end-wrong-requires-clause-n_lt_pool
-look_at_end-wrong-requires-clause-n_lt_pool c = (narrow c.loop-path.invariant.held c.loop-path-test.true (sym (ap turn_of c.in-Ok.is) ∙ c.tested.ensures)).0
+look_at_end-wrong-requires-clause-n_lt_pool c = (narrow c.loop-path.invariant.held c.loop-path-test.true (sym (ap turn_of c.in-Ok.is) ∙ rw c.last-top.ensures at c.tested.ensures)).0
 
 pub loop-path-preserved : goal.loop-path-preserved
 loop-path-preserved c =
