@@ -83,11 +83,6 @@ pub fn move_front(bytes: &mut [u8], from: usize, to: usize) -> usize
     requires { (from ≤ to) × (to ≤ length bytes.old) }
     ensures { (result ≡ to - from) × (take result bytes.new ≡ take result (drop from bytes.old)) }
 {
-    let len = to - from;
-    let mut i: usize = 0;
-    while i < len {
-        bytes[i] = bytes[from + i];
-        i += 1;
-    }
-    len
+    bytes.copy_within(from..to, 0);
+    to - from
 }
