@@ -36,11 +36,7 @@ pub fn row_page_index_append(words: &mut [u64], count: u64, page: u64, answer: &
     ensures words { words.new ≡ (served (on_words words.old) (append count page)).arrays.words }
     ensures answer { Tells answer.old (answer_words (served (on_words words.old) (append count page)).answer) answer.new result }
 {
-    let n = Numbers::from(call_append::insert_row_page(
-        words,
-        count,
-        PageID(page),
-    ));
+    let n = Numbers::from(call_append::insert_row_page(words, count, PageID(page)));
     answer_words::tell(answer, n)
 }
 

@@ -26,7 +26,11 @@ pub fn cursor_in(cursor: &[u64]) -> RowPageIndexMemCursor
 
 // The cursor's words where a leaf was given; else they stay.
 #[tactic(auto, unfolding(model::specs::Words::fill))]
-pub fn cursor_out(cursor: &mut [u64], c: RowPageIndexMemCursor, given: Result<Option<Leaf>, Refusal>)
+pub fn cursor_out(
+    cursor: &mut [u64],
+    c: RowPageIndexMemCursor,
+    given: Result<Option<Leaf>, Refusal>,
+)
     ensures { cursor.new ≡ cursor_after cursor.old c (next_leaf given) }
 {
     if !next_words::gives_leaf(given) {
