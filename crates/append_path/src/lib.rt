@@ -4,14 +4,15 @@
 
 ghost use Rattle.std.specs.Prelude.{◌≡◌, ◌<◌, length};
 ghost use Rattle.model.specs.Append.{fresh, new_path};
-ghost use Rattle.node_read.specs.Layout.{Fits, shape_of};
+ghost use Rattle.node_read.specs.Layout.{shape_of};
+ghost use Rattle.node_read.specs.Store.{Kept};
 ghost use Rattle.append_path.specs.Inside.{Inside, numbers};
 
 use model::id::{NodeNo, PageID, RowID};
 use model::node::RowPageIndexNodeHeader;
 use node_pairs;
 use node_pairs::PairNumber;
-use node_read::layout::Layout;
+use node_read::store::StoreMut;
 use node_write::write;
 
 // A page, its first row and the row after its last.
@@ -25,17 +26,16 @@ pub struct NewPage {
 // Node n becomes a node of one entry, of this height and from start to end.
 #[tactic(auto, unfolding(model::specs::Append::fresh))]
 fn fresh_node<T: PairNumber>(
-    l: Layout,
-    s: &mut [u64],
+    s: &mut StoreMut<'_>,
     n: NodeNo,
     height: u64,
     start: RowID,
     end: RowID,
     x: T,
 )
-    requires fits { Fits l s.old }
-    requires n_lt_pool { n.0 < l.pool }
-    ensures { s.new ≡ fresh (shape_of l) s.old n.0 height start.0 end.0 (T.number x) }
+    requires n_lt_pool { n.0 < s.old.layout.pool }
+    ensures words { s.new.words.now ≡ fresh (shape_of s.old.layout) s.old.words.now n.0 height start.0 end.0 (T.number x) }
+    ensures kept { Kept s.old s.new }
 {
     let header = RowPageIndexNodeHeader {
         height,
@@ -43,30 +43,28 @@ fn fresh_node<T: PairNumber>(
         start_row_id: start,
         end_row_id: end,
     };
-    write::put_header(l, s, n, header);
-    node_pairs::put_pair(l, s, n, 0, start, x);
+    write::put_header(s, n, header);
+    node_pairs::put_pair(s, n, 0, start, x);
 }
 
 // A path of one-entry nodes over the page, the top first. New branches end at NONE.
 #[tactic(auto, using(crate::proofs::NewPaths::path_turn, crate::proofs::NewPaths::inside_at, crate::proofs::NewPaths::path_end))]
-pub fn new_path(l: Layout, s: &mut [u64], new: NewPage, nodes: &[NodeNo])
-    requires fits { Fits l s.old }
+pub fn new_path(s: &mut StoreMut<'_>, new: NewPage, nodes: &[NodeNo])
     requires some { 0 < length nodes.now }
-    requires inside { Inside l.pool (numbers nodes.now) }
-    ensures { s.new ≡ new_path (shape_of l) s.old new.start.0 new.end.0 new.page.0 (numbers nodes.now) }
+    requires inside { Inside s.old.layout.pool (numbers nodes.now) }
+    ensures words { s.new.words.now ≡ new_path (shape_of s.old.layout) s.old.words.now new.start.0 new.end.0 new.page.0 (numbers nodes.now) }
+    ensures kept { Kept s.old s.new }
 {
-    let none = RowID(RowPageIndexNodeHeader::NONE);
     let leaf = nodes.len() - 1;
     for i in 0..leaf {
         fresh_node(
-            l,
             s,
             nodes[i],
             (leaf - i) as u64,
             new.start,
-            none,
+            RowID::NONE,
             nodes[i + 1],
         );
     }
-    fresh_node(l, s, nodes[leaf], 0, new.start, new.end, new.page);
+    fresh_node(s, nodes[leaf], 0, new.start, new.end, new.page);
 }

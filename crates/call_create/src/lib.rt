@@ -7,12 +7,14 @@ ghost use Rattle.std.proofs.lemmas.List.Edits.{sets};
 ghost use Rattle.model.specs.Words.{lent};
 ghost use Rattle.model.specs.Refusals.{created};
 ghost use Rattle.model.specs.Create.{chained, create, new_header};
-ghost use Rattle.node_read.specs.Layout.{Fits, shape_of};
+ghost use Rattle.node_read.specs.Layout.{shape_of};
+ghost use Rattle.node_read.specs.Store.{Kept};
 
 use model::answer::Refusal;
 use model::id::{NodeNo, RowID};
 use model::node::RowPageIndexNodeHeader;
 use node_read::layout::Layout;
+use node_read::store::StoreMut;
 use node_write::write;
 
 // Words 0 to 7: node 0 is the root, and the chain begins at node 1.
@@ -25,13 +27,13 @@ fn write_header(s: &mut [u64], capacity: u64, nodes: u64)
 
 // Nodes 1 and on are free, each before the next number.
 #[tactic(auto, unfolding(model::specs::Create::chained), using(node_write::proofs::Turns::stop))]
-fn link_nodes(l: Layout, s: &mut [u64])
-    requires { Fits l s.old }
-    ensures { s.new ≡ chained (shape_of l) s.old 1 (l.pool - 1) }
+fn link_nodes(s: &mut StoreMut<'_>)
+    ensures words { s.new.words.now ≡ chained (shape_of s.old.layout) s.old.words.now 1 (s.old.layout.pool - 1) }
+    ensures kept { Kept s.old s.new }
 {
-    for n in 1..l.pool {
-        write::put(l, s, NodeNo(n), 0, RowPageIndexNodeHeader::FREE_MARK);
-        write::put(l, s, NodeNo(n), 1, n + 1);
+    for n in 1..s.layout.pool {
+        write::put(s, NodeNo(n), 0, RowPageIndexNodeHeader::FREE_MARK);
+        write::put(s, NodeNo(n), 1, n + 1);
     }
 }
 
@@ -48,11 +50,12 @@ pub fn new(s: &mut [u64], capacity: u64, nodes: u64, start: RowID) -> Result<(),
     if !l.fits(&s[..]) {
         return Err(Refusal::BadParameters);
     }
-    if RowPageIndexNodeHeader::ROW_LIMIT < start.0 {
+    if RowID::LIMIT < start {
         return Err(Refusal::RowLimit);
     }
     write_header(s, capacity, nodes);
-    write::empty_node(l, s, NodeNo(0), start);
-    link_nodes(l, s);
+    let mut store = StoreMut { layout: l, words: s };
+    write::empty_node(&mut store, NodeNo(0), start);
+    link_nodes(&mut store);
     Ok(())
 }

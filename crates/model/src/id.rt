@@ -4,6 +4,14 @@
 #[derive(Clone, Copy, PartialEq, Eq, PartialOrd, Ord)]
 pub struct RowID(pub u64);
 
+impl RowID {
+    // The greatest row at which a store starts or ends.
+    pub const LIMIT: RowID = RowID(1 << 62);
+
+    // The end of a branch on the right edge.
+    pub const NONE: RowID = RowID(u64::MAX);
+}
+
 // A page of rows.
 #[derive(Clone, Copy, PartialEq, Eq, PartialOrd, Ord)]
 pub struct PageID(pub u64);

@@ -18,11 +18,7 @@ pub struct RowPageIndexNodeHeader {
 impl RowPageIndexNodeHeader {
     pub const MAX_HEIGHT: u64 = 31;
 
-    pub const ROW_LIMIT: u64 = 1 << 62;
-
     pub const FREE_MARK: u64 = 0xffff_ffff;
-
-    pub const NONE: u64 = u64::MAX;
 
     pub fn is_leaf(self) -> bool
         ensures { result ≡ eqb self.height 0 }
@@ -51,7 +47,7 @@ impl RowPageIndexNodeHeader {
     pub fn ends_at_none(self) -> bool
         ensures { result ≡ eqb self.end_row_id.0 NONE }
     {
-        self.end_row_id.0 == Self::NONE
+        self.end_row_id == RowID::NONE
     }
 
     pub fn is_in_height(self) -> bool
@@ -63,7 +59,7 @@ impl RowPageIndexNodeHeader {
     pub fn starts_in_limit(self) -> bool
         ensures { result ≡ leb self.start_row_id.0 row_limit }
     {
-        self.start_row_id.0 <= Self::ROW_LIMIT
+        self.start_row_id <= RowID::LIMIT
     }
 }
 

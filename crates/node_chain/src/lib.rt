@@ -7,11 +7,13 @@ ghost use Rattle.model.specs.Words.{free_count, freed};
 ghost use Rattle.model.specs.Reading.{occ};
 ghost use Rattle.model.specs.Append.{chain_sound, firsts, past};
 ghost use Rattle.node_read.specs.Layout.{Fits, shape_of};
+ghost use Rattle.node_read.specs.Store.{Kept};
 ghost use Rattle.node_chain.specs.Chain.{is_link, listed};
 
 use model::id::NodeNo;
 use model::node::RowPageIndexNodeHeader;
 use node_read::layout::Layout;
+use node_read::store::StoreMut;
 use node_write::write;
 
 // The head of the chain and the free count, as nodes are taken.
@@ -25,16 +27,16 @@ pub fn set_chain(s: &mut [u64], head: NodeNo, free: u64)
 
 // Node n goes to the head of the chain: its first two words alone are written.
 #[tactic(auto, unfolding(model::specs::Words::freed))]
-pub fn free_node(l: Layout, s: &mut [u64], n: NodeNo)
-    requires fits { Fits l s.old }
-    requires n_lt_pool { (n.0 < l.pool) × (free_count s.old ≤ 65535) }
-    ensures { s.new ≡ freed (shape_of l) s.old n.0 }
+pub fn free_node(s: &mut StoreMut<'_>, n: NodeNo)
+    requires n_lt_pool { (n.0 < s.old.layout.pool) × (free_count s.old.words.now ≤ 65535) }
+    ensures words { s.new.words.now ≡ freed (shape_of s.old.layout) s.old.words.now n.0 }
+    ensures kept { Kept s.old s.new }
 {
-    let head = s[3];
-    let free = s[4];
-    write::put(l, s, n, 0, RowPageIndexNodeHeader::FREE_MARK);
-    write::put(l, s, n, 1, head);
-    set_chain(s, n, free + 1);
+    let head = s.read()[3];
+    let free = s.read()[4];
+    write::put(s, n, 0, RowPageIndexNodeHeader::FREE_MARK);
+    write::put(s, n, 1, head);
+    set_chain(&mut *s.words, n, free + 1);
 }
 
 // Whether n is among the first k nodes.
@@ -50,7 +52,7 @@ fn is_link(l: Layout, s: &[u64], n: NodeNo) -> bool
     requires { Fits l s.now }
     ensures { result ≡ is_link (shape_of l) l.pool s.now n.0 }
 {
-    if l.pool <= n.0 {
+    if !l.has_node(n) {
         return false;
     }
     let node = l.header(s, n);

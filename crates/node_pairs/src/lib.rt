@@ -4,11 +4,12 @@
 
 ghost use Rattle.std.specs.Prelude.{◌≡◌, ℕ, ◌+◌, ◌<◌};
 ghost use Rattle.model.specs.Words.{added, count, put};
-ghost use Rattle.node_read.specs.Layout.{Fits, shape_of};
+ghost use Rattle.node_read.specs.Layout.{shape_of};
+ghost use Rattle.node_read.specs.Store.{Kept};
 ghost use Rattle.node_write.specs.Write.{put_entry};
 
 use model::id::{NodeNo, PageID, RowID};
-use node_read::layout::Layout;
+use node_read::store::StoreMut;
 use node_write::write;
 
 // A number that stands beside a row: a page in a leaf, a child in a branch.
@@ -36,23 +37,24 @@ impl PairNumber for NodeNo {
 }
 
 // Pair i of node n.
-pub fn put_pair<T: PairNumber>(l: Layout, s: &mut [u64], n: NodeNo, i: u64, row: RowID, x: T)
-    requires fits { Fits l s.old }
-    requires n_lt_pool { (n.0 < l.pool) × (i < l.capacity) }
-    ensures { s.new ≡ put_entry (shape_of l) s.old n.0 i row.0 (T.number x) }
+pub fn put_pair<T: PairNumber>(s: &mut StoreMut<'_>, n: NodeNo, i: u64, row: RowID, x: T)
+    requires n_lt_pool { (n.0 < s.old.layout.pool) × (i < s.old.layout.capacity) }
+    ensures words { s.new.words.now ≡ put_entry (shape_of s.old.layout) s.old.words.now n.0 i row.0 (T.number x) }
+    ensures kept { Kept s.old s.new }
 {
-    write::put(l, s, n, l.row_place(i), row.0);
-    write::put(l, s, n, l.child_place(i), x.number());
+    let l = s.layout;
+    write::put(s, n, l.row_place(i), row.0);
+    write::put(s, n, l.child_place(i), x.number());
 }
 
 // One more pair in node n.
 #[tactic(auto, unfolding(model::specs::Words::added))]
-pub fn add_pair<T: PairNumber>(l: Layout, s: &mut [u64], n: NodeNo, row: RowID, x: T)
-    requires fits { Fits l s.old }
-    requires n_lt_pool { (n.0 < l.pool) × (count (shape_of l) s.old n.0 < l.capacity) }
-    ensures { s.new ≡ added (shape_of l) s.old n.0 row.0 (T.number x) }
+pub fn add_pair<T: PairNumber>(s: &mut StoreMut<'_>, n: NodeNo, row: RowID, x: T)
+    requires n_lt_pool { (n.0 < s.old.layout.pool) × (count (shape_of s.old.layout) s.old.words.now n.0 < s.old.layout.capacity) }
+    ensures words { s.new.words.now ≡ added (shape_of s.old.layout) s.old.words.now n.0 row.0 (T.number x) }
+    ensures kept { Kept s.old s.new }
 {
-    let k = l.header(&s[..], n).count;
-    put_pair(l, s, n, k, row, x);
-    write::put(l, s, n, 1, k + 1);
+    let k = s.layout.header(s.read(), n).count;
+    put_pair(s, n, k, row, x);
+    write::put(s, n, 1, k + 1);
 }

@@ -1,6 +1,6 @@
 // Which capacity, pool and length make a store, and where its words lie. Nothing else knows.
 
-ghost use Rattle.std.specs.Prelude.{◌≡◌, ◌+◌, ◌*◌, ◌≤◌, ◌<◌, length};
+ghost use Rattle.std.specs.Prelude.{◌≡◌, ◌+◌, ◌*◌, ◌≤◌, ◌<◌, length, ltb};
 ghost use Rattle.model.specs.Words.{child, child_place, in_range, node_size, pair_words, part, row, row_place, sized, store_length, word_place};
 ghost use Rattle.node_read.specs.Layout.{Fits, header_at, shape_of};
 
@@ -22,6 +22,13 @@ impl Layout {
     pub const MIN_POOL: u64 = 1;
 
     pub const MAX_POOL: u64 = 65535;
+
+    // Whether the pool has node n.
+    pub fn has_node(self, n: NodeNo) -> bool
+        ensures { result ≡ ltb n.0 self.pool }
+    {
+        n.0 < self.pool
+    }
 
     // Whether capacity and pool are in range.
     pub fn in_range(self) -> bool

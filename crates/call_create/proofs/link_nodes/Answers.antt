@@ -6,4 +6,6 @@ use Rattle.call_create.proofs.link_nodes.Goals as goal
 
 pub loop-n-preserved : goal.loop-n-preserved
 unfolding chained
-loop-n-preserved c = (search rules, c.loop-n.invariant.1 ∙ turn (chained _ _ _) _ _ c.loop-n-test.true ∙ rw (c.put-in-loop-n.ensures, c.put.ensures))
+loop-n-preserved c =
+    let e = rw (c.put.ensures.words, c.put.ensures.kept.layout, c.loop-n.invariant.0.layout) at c.put-in-loop-n.ensures.words in
+    (search rules, c.loop-n.invariant.1 ∙ turn (chained _ _ _) _ _ c.loop-n-test.true ∙ rw e)
