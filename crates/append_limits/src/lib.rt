@@ -25,7 +25,7 @@ pub fn test_limits(
     if count == 0 {
         return Err(Refusal::RowLimit);
     }
-    if RowPageIndexNodeHeader::ROW_LIMIT - start.0 < count {
+    if RowID::LIMIT.0 - start.0 < count {
         return Err(Refusal::RowLimit);
     }
     if height < needed {

@@ -52,7 +52,7 @@ pub fn bench_test_node(
         return REFUSED;
     };
     let l = h.layout;
-    if l.pool <= node {
+    if !l.has_node(NodeNo(node)) {
         return REFUSED;
     }
     let beyond = limit(bounded, next);

@@ -25,7 +25,7 @@ fn follow_chain(l: Layout, s: &[u64], head: NodeNo, k: u64) -> bool
 {
     let mut n = head;
     for _ in 0..k {
-        if l.pool <= n.0 {
+        if !l.has_node(n) {
             return false;
         }
         let h = l.header(s, n);
@@ -34,7 +34,7 @@ fn follow_chain(l: Layout, s: &[u64], head: NodeNo, k: u64) -> bool
         }
         n = NodeNo(h.count);
     }
-    n.0 == l.pool
+    n == NodeNo(l.pool)
 }
 
 // After a sound tree with these counts: whether the chain was one, and all nodes are held.

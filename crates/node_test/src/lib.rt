@@ -9,7 +9,6 @@ ghost use Rattle.node_read.specs.Layout.{Fits, shape_of};
 ghost use Rattle.node_test.specs.Test.{first_out, limit_of, node_test};
 
 use model::id::{NodeNo, RowID};
-use model::node::RowPageIndexNodeHeader;
 use node_read::layout::Layout;
 
 // Whether a node of this height may end so, its last row being last; next is the row of the next entry on its path, if there is
@@ -22,12 +21,12 @@ fn end_sound(height: u64, next: Option<RowID>, end: RowID, last: RowID) -> bool
         if end <= last {
             return false;
         }
-        if RowPageIndexNodeHeader::ROW_LIMIT < end.0 {
+        if RowID::LIMIT < end {
             return false;
         }
         next.is_none_or(|row| end == row)
     } else {
-        if end.0 == RowPageIndexNodeHeader::NONE {
+        if end == RowID::NONE {
             return true;
         }
         last < end
@@ -94,7 +93,7 @@ fn first_out(l: Layout, s: &[u64], n: NodeNo, count: u64) -> u64
     ensures { result ≡ first_out (shape_of l) l.pool s.now n.0 0 count }
 {
     for i in 0..count {
-        if l.pool <= l.child(s, n, i).0 {
+        if !l.has_node(l.child(s, n, i)) {
             return i;
         }
     }

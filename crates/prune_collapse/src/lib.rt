@@ -41,7 +41,7 @@ fn copy_at(
         return Ok(None);
     }
     let child = l.child(s, n, last);
-    if l.pool <= child.0 {
+    if !l.has_node(child) {
         return Err(UnsoundNode(n));
     }
     let row = l.row(s, n, last);

@@ -9,7 +9,7 @@ ghost use Rattle.node_read.specs.Layout.{Fits, shape_of};
 ghost use Rattle.prune_leaf.specs.Progress.{EndsAt, named_of, node_scan, progress_of};
 
 use model::answer::Refusal;
-use model::id::{NodeNo, RowID};
+use model::id::{NodeNo, PageID, RowID};
 use node_read::layout::Layout;
 
 // How many ids are named so far, and where the last entry of them ends.
@@ -56,7 +56,7 @@ pub fn scan_node(
         if ids.len() <= place {
             return Ok(Progress { place, reached });
         }
-        if l.page(s, n, i).0 != ids[place] {
+        if l.page(s, n, i) != PageID(ids[place]) {
             return Err(Refusal::PageDiffers(place as u64));
         }
         let next = entry_end(l, s, n, i);

@@ -3,7 +3,7 @@
 
 use crate::walk::Node;
 use crate::words;
-use model::node::RowPageIndexNodeHeader;
+use model::id::RowID;
 use std::fmt;
 use store_print::Row;
 
@@ -23,7 +23,7 @@ pub enum Fault {
     BranchEnd { is: Row, next: Option<Row> },
 }
 
-const ROW_LIMIT: Row = Row(RowPageIndexNodeHeader::ROW_LIMIT);
+const ROW_LIMIT: Row = Row(RowID::LIMIT.0);
 
 impl fmt::Display for Fault {
     fn fmt<W: fmt::Write>(&self, f: &mut fmt::Formatter<W>) -> fmt::Result {
@@ -57,7 +57,7 @@ impl fmt::Display for Fault {
 
 // A leaf's end, before the next row where there is one.
 fn check_leaf_end(end: u64, next: Option<u64>) -> Result<(), Fault> {
-    if RowPageIndexNodeHeader::ROW_LIMIT < end {
+    if RowID::LIMIT.0 < end {
         return Err(Fault::HighEnd { is: Row(end) });
     }
     match next {
@@ -71,7 +71,7 @@ fn check_leaf_end(end: u64, next: Option<u64>) -> Result<(), Fault> {
 
 // The end of a branch, or of an empty root: NONE, or the next row where there is one.
 fn check_branch_end(end: u64, next: Option<u64>) -> Result<(), Fault> {
-    if end == RowPageIndexNodeHeader::NONE || next == Some(end) {
+    if end == RowID::NONE.0 || next == Some(end) {
         return Ok(());
     }
     Err(Fault::BranchEnd {
@@ -156,7 +156,7 @@ pub fn check_empty_root(s: &[u64], n: u64) -> Result<(), Fault> {
         return Ok(());
     }
     let start = words::part(s, n, 2);
-    if RowPageIndexNodeHeader::ROW_LIMIT < start {
+    if RowID::LIMIT.0 < start {
         return Err(Fault::HighStart { is: Row(start) });
     }
     check_branch_end(words::part(s, n, 3), None)

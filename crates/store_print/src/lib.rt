@@ -4,7 +4,7 @@
 
 use answer_numbers::Numbers;
 use model::answer::{Refusal, WellFormed};
-use model::node::RowPageIndexNodeHeader;
+use model::id::RowID;
 use std::{fmt, io};
 
 // A row; the largest number is no row.
@@ -13,7 +13,7 @@ pub struct Row(pub u64);
 
 impl fmt::Display for Row {
     fn fmt<W: fmt::Write>(&self, f: &mut fmt::Formatter<W>) -> fmt::Result {
-        if self.0 == RowPageIndexNodeHeader::NONE {
+        if self.0 == RowID::NONE.0 {
             return f.write_str("NONE");
         }
         write!(f, "{}", self.0)

@@ -42,7 +42,7 @@ pub fn find_below(
     let mut r = row;
     let mut next = beyond;
     for below in (0..height).rev() {
-        if l.pool <= n.0 {
+        if !l.has_node(n) {
             return Err(UnsoundNode(parent));
         }
         if !node_test::is_sound(l, s, n, below + 1, r, next) {
@@ -55,7 +55,7 @@ pub fn find_below(
         parent = n;
         n = l.child(s, n, index);
     }
-    if l.pool <= n.0 {
+    if !l.has_node(n) {
         return Err(UnsoundNode(parent));
     }
     if !node_test::is_sound(l, s, n, 0, r, next) {

@@ -59,7 +59,10 @@ fn go_down(
     requires height_le_max_height { height ≤ max_height }
     ensures { Descended (shape_of l) l.pool s.now height root.0 row.0 result }
 {
-    let mut positions = [Position::entered(root); 32];
+    let mut path = Path {
+        positions: [Position::entered(root); 32],
+        depth: 0,
+    };
     let mut room = Room {
         node: root,
         needed: height + 2,
@@ -68,10 +71,9 @@ fn go_down(
     let mut n = root;
     let mut h = height;
     let mut r = row;
-    let mut depth: usize = 0;
     // no `for` over heights: the leaf is tested and stored as the others are, and has no child
     loop {
-        if l.pool <= n.0 {
+        if !l.has_node(n) {
             return Err(UnsoundNode(parent));
         }
         if !node_test::is_sound(l, s, n, h, r, None) {
@@ -83,11 +85,10 @@ fn go_down(
             room = Room { node: n, needed: h };
         }
         let index = head.count - 1;
-        positions[depth] = Position { node: n, index };
-        depth += 1;
+        path.push(Position { node: n, index });
         if h == 0 {
             return Ok(RightEdge {
-                path: Path { positions, depth },
+                path,
                 leaf: n,
                 room,
             });

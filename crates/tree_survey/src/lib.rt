@@ -44,7 +44,7 @@ fn look_at_end(l: Layout, s: &[u64], n: NodeNo, next: Option<RowID>, wrong: Node
     if tree_limit::end_fits(h.height, next, h.end_row_id) {
         return wrong;
     }
-    if wrong.0 < l.pool {
+    if l.has_node(wrong) {
         return wrong;
     }
     n
@@ -56,7 +56,7 @@ fn both(l: Layout, nodes: Result<Counts, UnsoundNode>, wrong: NodeNo) -> Surveys
     ensures nodes { result.nodes ≡ nodes }
     ensures ends { result.ends ≡ with_ends (wrong_of l.pool wrong.0) nodes }
 {
-    if l.pool <= wrong.0 {
+    if !l.has_node(wrong) {
         return Surveys { nodes, ends: nodes };
     }
     Surveys {
