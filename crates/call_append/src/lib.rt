@@ -9,6 +9,7 @@ ghost use Rattle.model.specs.Reading.{leaf};
 ghost use Rattle.model.specs.Refusals.{inserted};
 ghost use Rattle.model.specs.Append.{append_to, insert_row_page, room};
 ghost use Rattle.node_read.specs.Layout.{Fits, shape_of};
+ghost use Rattle.node_read.specs.Store.{Kept};
 ghost use Rattle.append_path.specs.Inside.{Inside, number_at, numbers};
 ghost use Rattle.tree_right_edge.specs.Edge.{SoundEdge, Usable, room_of};
 ghost use Rattle.call_append.specs.Placed.{grown, placed};
@@ -19,31 +20,30 @@ use model::id::{NodeNo, PageID, RowID};
 use node_chain;
 use node_read::header;
 use node_read::header::StoreHeader;
-use node_read::layout::Layout;
+use node_read::store::StoreMut;
 use tree_right_edge;
 use tree_right_edge::Room;
 
 // A path of new nodes over the page goes to the branch with room; where none has room, the root, of this height, splits.
 fn grow_tree(
-    l: Layout,
-    s: &mut [u64],
+    s: &mut StoreMut<'_>,
     root: NodeNo,
     root_height: u64,
     room: Room,
     new: NewPage,
     nodes: &[NodeNo],
 )
-    requires fits { Fits l s.old }
-    requires root_lt_pool { (root.0 < l.pool) × (root_height ≡ height (shape_of l) s.old root.0) }
-    requires le_needed { (1 ≤ room.needed) × (length nodes.now ≡ room.needed) × Usable (shape_of l) l.pool s.old root.0 (room_of room) }
-    requires inside { Inside l.pool (numbers nodes.now) × (root.0 ≢ number_at nodes.now 0) }
-    ensures { s.new ≡ grown (shape_of l) s.old root.0 new.start.0 new.end.0 new.page.0 (room_of room) (numbers nodes.now) }
+    requires root_lt_pool { (root.0 < s.old.layout.pool) × (root_height ≡ height (shape_of s.old.layout) s.old.words.now root.0) }
+    requires le_needed { (1 ≤ room.needed) × (length nodes.now ≡ room.needed) × Usable (shape_of s.old.layout) s.old.layout.pool s.old.words.now root.0 (room_of room) }
+    requires inside { Inside s.old.layout.pool (numbers nodes.now) × (root.0 ≢ number_at nodes.now 0) }
+    ensures words { s.new.words.now ≡ grown (shape_of s.old.layout) s.old.words.now root.0 new.start.0 new.end.0 new.page.0 (room_of room) (numbers nodes.now) }
+    ensures kept { Kept s.old s.new }
 {
     if room.needed <= root_height {
-        append_write::hang_path(l, s, room.node, new, nodes);
+        append_write::hang_path(s, room.node, new, nodes);
         return;
     }
-    append_write::split_root(l, s, root, new, nodes);
+    append_write::split_root(s, root, new, nodes);
 }
 
 // A new page goes where there is room. Where the right leaf has it, the chain is neither read nor written; else its nodes
@@ -69,16 +69,17 @@ fn place_page(
         end_row_id: new.end,
         taken_nodes: room.needed,
     };
+    let mut store = StoreMut { layout: l, words: s };
     if room.needed == 0 {
-        append_write::hang_page(l, s, room.node, new);
+        append_write::hang_page(&mut store, room.node, new);
         return Ok(done);
     }
     let k = room.needed as usize;
-    let Some(wanted) = node_chain::read_chain(l, &s[..], h.free_head, k) else {
+    let Some(wanted) = node_chain::read_chain(l, store.read(), h.free_head, k) else {
         return Err(Refusal::Unsound(NodeNo::HEADER));
     };
-    grow_tree(l, s, h.root, root_height, room, new, &wanted.nodes[..k]);
-    node_chain::set_chain(s, wanted.next, h.free_count - room.needed);
+    grow_tree(&mut store, h.root, root_height, room, new, &wanted.nodes[..k]);
+    node_chain::set_chain(&mut *store.words, wanted.next, h.free_count - room.needed);
     Ok(done)
 }
 

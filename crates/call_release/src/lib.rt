@@ -8,12 +8,14 @@ ghost use Rattle.model.specs.Reading.{page_ids, root_entries, root_nodes};
 ghost use Rattle.model.specs.Release.{destroy, released_words};
 ghost use Rattle.model.specs.Refusals.{destroyed};
 ghost use Rattle.node_read.specs.Layout.{Fits, shape_of};
+ghost use Rattle.node_read.specs.Store.{Kept};
 ghost use Rattle.release_pages.specs.Releasable.{Releasable, first_below};
 
 use model::answer::{Refusal, Released};
 use model::id::{NodeNo, RowID};
 use node_read::header;
 use node_read::layout::Layout;
+use node_read::store::StoreMut;
 use node_write::write;
 use release_pages;
 use tree_free;
@@ -21,15 +23,16 @@ use tree_survey;
 
 // A sound tree of k nodes: its page ids go into the list, its nodes into the chain, and the root word closes the store.
 #[tactic(auto, unfolding(model::specs::Release::released_words), using(crate::proofs::Deciding::all_freed))]
-fn destroy_tree(l: Layout, s: &mut [u64], root: NodeNo, k: u64, pages: &mut [u64])
-    requires releasable { Releasable (shape_of l) l.pool s.old root.0 k }
-    requires k_value { (k ≡ length (root_nodes (shape_of l) s.old root.0)) × (length (root_entries (shape_of l) s.old root.0) ≤ length pages.old) }
-    ensures words { s.new ≡ released_words (shape_of l) l.pool s.old (root_nodes (shape_of l) s.old root.0) }
-    ensures list { pages.new ≡ fill pages.old 0 (page_ids (root_entries (shape_of l) s.old root.0)) }
+fn destroy_tree(s: &mut StoreMut<'_>, root: NodeNo, k: u64, pages: &mut [u64])
+    requires releasable { Releasable (shape_of s.old.layout) s.old.layout.pool s.old.words.now root.0 k }
+    requires k_value { (k ≡ length (root_nodes (shape_of s.old.layout) s.old.words.now root.0)) × (length (root_entries (shape_of s.old.layout) s.old.words.now root.0) ≤ length pages.old) }
+    ensures words { s.new.words.now ≡ released_words (shape_of s.old.layout) s.old.layout.pool s.old.words.now (root_nodes (shape_of s.old.layout) s.old.words.now root.0) }
+    ensures list { pages.new ≡ fill pages.old 0 (page_ids (root_entries (shape_of s.old.layout) s.old.words.now root.0)) }
+    ensures kept { Kept s.old s.new }
 {
-    release_pages::copy_tree(l, &s[..], root, pages);
-    tree_free::free_first(l, s, root, k);
-    write::set_word(s, 2, l.pool);
+    release_pages::copy_tree(s.layout, s.read(), root, pages);
+    tree_free::free_first(s, root, k);
+    write::set_word(&mut *s.words, 2, s.layout.pool);
 }
 
 // The first row of a sound tree with so many entries, if it is below the pivot: it is the lowest.
@@ -63,7 +66,7 @@ pub fn destroy(s: &mut [u64], pivot: RowID, pages: &mut [u64]) -> Result<Release
     if l.pool < h.free_count + counts.nodes {
         return Err(Refusal::Unsound(NodeNo::HEADER));
     }
-    destroy_tree(l, s, root, counts.nodes, pages);
+    destroy_tree(&mut StoreMut { layout: l, words: s }, root, counts.nodes, pages);
     Ok(Released {
         nodes: counts.nodes,
         pages: counts.entries,

@@ -11,6 +11,7 @@ use model::answer::{Refusal, Released};
 use model::id::{NodeNo, RowID};
 use node_chain;
 use node_read::header;
+use node_read::store::StoreMut;
 use node_root;
 use node_write::write;
 
@@ -32,7 +33,8 @@ pub fn destroy_empty(s: &mut [u64]) -> Result<Released, Refusal>
     if l.pool < h.free_count + 1 {
         return Err(Refusal::Unsound(NodeNo::HEADER));
     }
-    node_chain::free_node(l, s, root);
-    write::set_word(s, 2, l.pool);
+    let mut store = StoreMut { layout: l, words: s };
+    node_chain::free_node(&mut store, root);
+    write::set_word(&mut *store.words, 2, l.pool);
     Ok(Released { nodes: 1, pages: 0 })
 }

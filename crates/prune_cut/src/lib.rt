@@ -5,6 +5,7 @@
 ghost use Rattle.std.specs.Prelude.{◌≡◌, ◌+◌, ◌-◌, ◌<◌, length};
 ghost use Rattle.model.specs.Refusals.{pruned};
 ghost use Rattle.node_read.specs.Layout.{shape_of};
+ghost use Rattle.node_read.specs.Store.{Kept};
 ghost use Rattle.node_chain.specs.Chain.{listed};
 ghost use Rattle.prune_boundary.specs.Trims.{trims_of};
 ghost use Rattle.prune_cut.specs.Found.{AllGo, EdgedIn, RootedIn, SomeStay, cut_at_in, cut_in, reset_in};
@@ -13,7 +14,7 @@ ghost use Rattle.prune_cut.specs.Writable.{Resettable, Writable, cut_words, rese
 use model::answer::{Refusal, RowPagePrefixPrune};
 use model::id::{NodeNo, RowID};
 use node_read::header::StoreHeader;
-use node_read::layout::Layout;
+use node_read::store::StoreMut;
 use node_write::write;
 use prune_collapse;
 use prune_edge::Boundary;
@@ -22,23 +23,25 @@ use tree_free;
 
 // What goes is freed first: the numbers of the children that go are lost when their node is trimmed. No freed node is trimmed,
 // copied or the root, so the words are those of 01's order.
-fn write_edge(l: Layout, s: &mut [u64], root: NodeNo, end: RowID, b: Boundary, nodes: &[NodeNo])
-    requires { Writable (shape_of l) l.pool s.old root.0 b.edge b.gone nodes.now }
-    ensures { s.new ≡ cut_words (shape_of l) s.old root.0 end.0 (trims_of b.edge) (listed nodes.now 0 (length nodes.now)) }
+fn write_edge(s: &mut StoreMut<'_>, root: NodeNo, end: RowID, b: Boundary, nodes: &[NodeNo])
+    requires { Writable (shape_of s.old.layout) s.old.layout.pool s.old.words.now root.0 b.edge b.gone nodes.now }
+    ensures words { s.new.words.now ≡ cut_words (shape_of s.old.layout) s.old.words.now root.0 end.0 (trims_of b.edge) (listed nodes.now 0 (length nodes.now)) }
+    ensures kept { Kept s.old s.new }
 {
-    tree_free::free_first(l, s, root, b.gone);
-    prune_write::trim_all(l, s, b.edge, end);
-    prune_write::copy_all(l, s, root, nodes);
-    prune_write::free_copied(l, s, nodes);
+    tree_free::free_first(s, root, b.gone);
+    prune_write::trim_all(s, b.edge, end);
+    prune_write::copy_all(s, root, nodes);
+    prune_write::free_copied(s, nodes);
 }
 
 // Nothing is left: all below the root is freed, and the root is an empty leaf from the end on.
-fn write_reset(l: Layout, s: &mut [u64], root: NodeNo, end: RowID, b: Boundary)
-    requires { Resettable (shape_of l) l.pool s.old root.0 b.edge b.gone }
-    ensures { s.new ≡ reset_words (shape_of l) s.old root.0 end.0 (trims_of b.edge) }
+fn write_reset(s: &mut StoreMut<'_>, root: NodeNo, end: RowID, b: Boundary)
+    requires { Resettable (shape_of s.old.layout) s.old.layout.pool s.old.words.now root.0 b.edge b.gone }
+    ensures words { s.new.words.now ≡ reset_words (shape_of s.old.layout) s.old.words.now root.0 end.0 (trims_of b.edge) }
+    ensures kept { Kept s.old s.new }
 {
-    tree_free::free_first(l, s, root, b.gone);
-    write::empty_node(l, s, root, end);
+    tree_free::free_first(s, root, b.gone);
+    write::empty_node(s, root, end);
 }
 
 // All k entries go, and nothing is left.
@@ -56,7 +59,11 @@ fn prune_all(
     if h.layout.pool - h.free_count < b.gone {
         return Err(Refusal::Unsound(NodeNo::HEADER));
     }
-    write_reset(h.layout, s, h.root, end, b);
+    let mut store = StoreMut {
+        layout: h.layout,
+        words: s,
+    };
+    write_reset(&mut store, h.root, end, b);
     Ok(RowPagePrefixPrune {
         removed_entries: k,
         reclaimed_nodes: b.gone,
@@ -82,7 +89,11 @@ fn prune_some(
     if h.layout.pool - h.free_count < freed {
         return Err(Refusal::Unsound(NodeNo::HEADER));
     }
-    write_edge(h.layout, s, h.root, end, b, &copies.nodes[..copies.count]);
+    let mut store = StoreMut {
+        layout: h.layout,
+        words: s,
+    };
+    write_edge(&mut store, h.root, end, b, &copies.nodes[..copies.count]);
     Ok(RowPagePrefixPrune {
         removed_entries: k,
         reclaimed_nodes: freed,

@@ -7,25 +7,27 @@ ghost use Rattle.model.specs.Words.{free_all};
 ghost use Rattle.model.specs.Reading.{root_nodes};
 ghost use Rattle.tree_free.specs.CanFree.{CanFree};
 ghost use Rattle.node_read.specs.Layout.{shape_of};
+ghost use Rattle.node_read.specs.Store.{Kept};
 
 use model::id::NodeNo;
 use model::path::Path;
 use node_chain;
-use node_read::layout::Layout;
+use node_read::store::StoreMut;
 use tree_turn::turn;
 
 // Frees the first k nodes, in postorder, of the tree from root.
-pub fn free_first(l: Layout, s: &mut [u64], root: NodeNo, k: u64)
-    requires { CanFree (shape_of l) l.pool s.old root.0 k }
-    ensures { s.new ≡ free_all (shape_of l) s.old (take k (root_nodes (shape_of l) s.old root.0)) }
+pub fn free_first(s: &mut StoreMut<'_>, root: NodeNo, k: u64)
+    requires { CanFree (shape_of s.old.layout) s.old.layout.pool s.old.words.now root.0 k }
+    ensures words { s.new.words.now ≡ free_all (shape_of s.old.layout) s.old.words.now (take k (root_nodes (shape_of s.old.layout) s.old.words.now root.0)) }
+    ensures kept { Kept s.old s.new }
 {
     let mut path = Path::rooted(root);
     let mut freed: u64 = 0;
     while freed < k {
         let top = path.last();
-        match turn::untested(l, &s[..], top) {
+        match turn::untested(s.layout, s.read(), top) {
             None => {
-                node_chain::free_node(l, s, top.node);
+                node_chain::free_node(s, top.node);
                 freed += 1;
                 path.leave();
             }
