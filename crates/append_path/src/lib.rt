@@ -5,7 +5,7 @@
 ghost use Rattle.std.specs.Prelude.{◌≡◌, ◌<◌, length};
 ghost use Rattle.model.specs.Append.{fresh, new_path};
 ghost use Rattle.node_read.specs.Layout.{shape_of};
-ghost use Rattle.node_read.specs.Store.{Kept};
+ghost use Rattle.node_read.specs.Store.{SameLoan};
 ghost use Rattle.append_path.specs.Inside.{Inside, numbers};
 
 use model::id::{NodeNo, PageID, RowID};
@@ -35,7 +35,7 @@ fn fresh_node<T: PairNumber>(
 )
     requires n_lt_pool { n.0 < s.old.layout.pool }
     ensures words { s.new.words.now ≡ fresh (shape_of s.old.layout) s.old.words.now n.0 height start.0 end.0 (T.number x) }
-    ensures kept { Kept s.old s.new }
+    ensures kept { SameLoan s.old s.new }
 {
     let header = RowPageIndexNodeHeader {
         height,
@@ -53,7 +53,7 @@ pub fn new_path(s: &mut StoreMut<'_>, new: NewPage, nodes: &[NodeNo])
     requires some { 0 < length nodes.now }
     requires inside { Inside s.old.layout.pool (numbers nodes.now) }
     ensures words { s.new.words.now ≡ new_path (shape_of s.old.layout) s.old.words.now new.start.0 new.end.0 new.page.0 (numbers nodes.now) }
-    ensures kept { Kept s.old s.new }
+    ensures kept { SameLoan s.old s.new }
 {
     let leaf = nodes.len() - 1;
     for i in 0..leaf {

@@ -6,7 +6,7 @@ ghost use Rattle.std.specs.Prelude.{◌≡◌, [], ◌≢◌, ◌≤◌, ◌<◌
 ghost use Rattle.model.specs.Words.{NONE, count, height};
 ghost use Rattle.model.specs.Append.{hang, raised, split_root};
 ghost use Rattle.node_read.specs.Layout.{shape_of};
-ghost use Rattle.node_read.specs.Store.{Kept};
+ghost use Rattle.node_read.specs.Store.{SameLoan};
 ghost use Rattle.append_path.specs.Inside.{Inside, number_at, numbers};
 
 use append_path;
@@ -22,7 +22,7 @@ use node_write::write;
 pub fn hang_page(s: &mut StoreMut<'_>, n: NodeNo, new: NewPage)
     requires n_lt_pool { (n.0 < s.old.layout.pool) × (count (shape_of s.old.layout) s.old.words.now n.0 < s.old.layout.capacity) }
     ensures words { s.new.words.now ≡ hang (shape_of s.old.layout) s.old.words.now n.0 new.start.0 new.end.0 new.page.0 [] }
-    ensures kept { Kept s.old s.new }
+    ensures kept { SameLoan s.old s.new }
 {
     node_pairs::add_pair(s, n, new.start, new.page);
     write::put(s, n, 3, new.end.0);
@@ -35,7 +35,7 @@ pub fn hang_path(s: &mut StoreMut<'_>, n: NodeNo, new: NewPage, nodes: &[NodeNo]
     requires some { 0 < length nodes.now }
     requires inside { Inside s.old.layout.pool (numbers nodes.now) }
     ensures words { s.new.words.now ≡ hang (shape_of s.old.layout) s.old.words.now n.0 new.start.0 new.end.0 new.page.0 (numbers nodes.now) }
-    ensures kept { Kept s.old s.new }
+    ensures kept { SameLoan s.old s.new }
 {
     node_pairs::add_pair(s, n, new.start, nodes[0]);
     append_path::new_path(s, new, nodes);
@@ -46,7 +46,7 @@ pub fn hang_path(s: &mut StoreMut<'_>, n: NodeNo, new: NewPage, nodes: &[NodeNo]
 fn raise(s: &mut StoreMut<'_>, n: NodeNo, copy: NodeNo, start: RowID, top: NodeNo)
     requires n_lt_pool { (n.0 < s.old.layout.pool) × (height (shape_of s.old.layout) s.old.words.now n.0 ≤ 31) }
     ensures words { s.new.words.now ≡ raised (shape_of s.old.layout) s.old.words.now n.0 copy.0 start.0 top.0 }
-    ensures kept { Kept s.old s.new }
+    ensures kept { SameLoan s.old s.new }
 {
     let h = s.layout.header(s.read(), n);
     write::put(s, n, 0, h.height + 1);
@@ -63,7 +63,7 @@ pub fn split_root(s: &mut StoreMut<'_>, n: NodeNo, new: NewPage, nodes: &[NodeNo
     requires two { 2 ≤ length nodes.now }
     requires inside { Inside s.old.layout.pool (numbers nodes.now) × (n.0 ≢ number_at nodes.now 0) }
     ensures words { s.new.words.now ≡ split_root (shape_of s.old.layout) s.old.words.now n.0 new.start.0 new.end.0 new.page.0 (numbers nodes.now) }
-    ensures kept { Kept s.old s.new }
+    ensures kept { SameLoan s.old s.new }
 {
     let copy = nodes[0];
     node_copy::copy_node(s, n, copy);

@@ -9,7 +9,7 @@ ghost use Rattle.model.specs.Reading.{leaf};
 ghost use Rattle.model.specs.Refusals.{inserted};
 ghost use Rattle.model.specs.Append.{append_to, insert_row_page, room};
 ghost use Rattle.node_read.specs.Layout.{Fits, shape_of};
-ghost use Rattle.node_read.specs.Store.{Kept};
+ghost use Rattle.node_read.specs.Store.{SameLoan};
 ghost use Rattle.append_path.specs.Inside.{Inside, number_at, numbers};
 ghost use Rattle.tree_right_edge.specs.Edge.{SoundEdge, Usable, room_of};
 ghost use Rattle.call_append.specs.Placed.{grown, placed};
@@ -37,7 +37,7 @@ fn grow_tree(
     requires le_needed { (1 ≤ room.needed) × (length nodes.now ≡ room.needed) × Usable (shape_of s.old.layout) s.old.layout.pool s.old.words.now root.0 (room_of room) }
     requires inside { Inside s.old.layout.pool (numbers nodes.now) × (root.0 ≢ number_at nodes.now 0) }
     ensures words { s.new.words.now ≡ grown (shape_of s.old.layout) s.old.words.now root.0 new.start.0 new.end.0 new.page.0 (room_of room) (numbers nodes.now) }
-    ensures kept { Kept s.old s.new }
+    ensures kept { SameLoan s.old s.new }
 {
     if room.needed <= root_height {
         append_write::hang_path(s, room.node, new, nodes);
@@ -69,17 +69,17 @@ fn place_page(
         end_row_id: new.end,
         taken_nodes: room.needed,
     };
-    let mut store = StoreMut { layout: l, words: s };
     if room.needed == 0 {
-        append_write::hang_page(&mut store, room.node, new);
+        append_write::hang_page(&mut StoreMut { layout: l, words: s }, room.node, new);
         return Ok(done);
     }
     let k = room.needed as usize;
-    let Some(wanted) = node_chain::read_chain(l, store.read(), h.free_head, k) else {
+    let Some(wanted) = node_chain::read_chain(l, &s[..], h.free_head, k) else {
         return Err(Refusal::Unsound(NodeNo::HEADER));
     };
+    let mut store = StoreMut { layout: l, words: s };
     grow_tree(&mut store, h.root, root_height, room, new, &wanted.nodes[..k]);
-    node_chain::set_chain(&mut *store.words, wanted.next, h.free_count - room.needed);
+    node_chain::set_chain(s, wanted.next, h.free_count - room.needed);
     Ok(done)
 }
 

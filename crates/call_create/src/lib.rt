@@ -8,7 +8,7 @@ ghost use Rattle.model.specs.Words.{lent};
 ghost use Rattle.model.specs.Refusals.{created};
 ghost use Rattle.model.specs.Create.{chained, create, new_header};
 ghost use Rattle.node_read.specs.Layout.{shape_of};
-ghost use Rattle.node_read.specs.Store.{Kept};
+ghost use Rattle.node_read.specs.Store.{SameLoan};
 
 use model::answer::Refusal;
 use model::id::{NodeNo, RowID};
@@ -29,7 +29,7 @@ fn write_header(s: &mut [u64], capacity: u64, nodes: u64)
 #[tactic(auto, unfolding(model::specs::Create::chained), using(node_write::proofs::Turns::stop))]
 fn link_nodes(s: &mut StoreMut<'_>)
     ensures words { s.new.words.now ≡ chained (shape_of s.old.layout) s.old.words.now 1 (s.old.layout.pool - 1) }
-    ensures kept { Kept s.old s.new }
+    ensures kept { SameLoan s.old s.new }
 {
     for n in 1..s.layout.pool {
         write::put(s, NodeNo(n), 0, RowPageIndexNodeHeader::FREE_MARK);

@@ -8,7 +8,7 @@ ghost use Rattle.model.specs.Reading.{page_ids, root_entries, root_nodes};
 ghost use Rattle.model.specs.Release.{destroy, released_words};
 ghost use Rattle.model.specs.Refusals.{destroyed};
 ghost use Rattle.node_read.specs.Layout.{Fits, shape_of};
-ghost use Rattle.node_read.specs.Store.{Kept};
+ghost use Rattle.node_read.specs.Store.{SameLoan};
 ghost use Rattle.release_pages.specs.Releasable.{Releasable, first_below};
 
 use model::answer::{Refusal, Released};
@@ -28,7 +28,7 @@ fn destroy_tree(s: &mut StoreMut<'_>, root: NodeNo, k: u64, pages: &mut [u64])
     requires k_value { (k ≡ length (root_nodes (shape_of s.old.layout) s.old.words.now root.0)) × (length (root_entries (shape_of s.old.layout) s.old.words.now root.0) ≤ length pages.old) }
     ensures words { s.new.words.now ≡ released_words (shape_of s.old.layout) s.old.layout.pool s.old.words.now (root_nodes (shape_of s.old.layout) s.old.words.now root.0) }
     ensures list { pages.new ≡ fill pages.old 0 (page_ids (root_entries (shape_of s.old.layout) s.old.words.now root.0)) }
-    ensures kept { Kept s.old s.new }
+    ensures kept { SameLoan s.old s.new }
 {
     release_pages::copy_tree(s.layout, s.read(), root, pages);
     tree_free::free_first(s, root, k);

@@ -33,8 +33,7 @@ pub fn destroy_empty(s: &mut [u64]) -> Result<Released, Refusal>
     if l.pool < h.free_count + 1 {
         return Err(Refusal::Unsound(NodeNo::HEADER));
     }
-    let mut store = StoreMut { layout: l, words: s };
-    node_chain::free_node(&mut store, root);
-    write::set_word(&mut *store.words, 2, l.pool);
+    node_chain::free_node(&mut StoreMut { layout: l, words: s }, root);
+    write::set_word(s, 2, l.pool);
     Ok(Released { nodes: 1, pages: 0 })
 }

@@ -7,7 +7,7 @@ ghost use Rattle.model.specs.Words.{free_count, freed};
 ghost use Rattle.model.specs.Reading.{occ};
 ghost use Rattle.model.specs.Append.{chain_sound, firsts, past};
 ghost use Rattle.node_read.specs.Layout.{Fits, shape_of};
-ghost use Rattle.node_read.specs.Store.{Kept};
+ghost use Rattle.node_read.specs.Store.{SameLoan};
 ghost use Rattle.node_chain.specs.Chain.{is_link, listed};
 
 use model::id::NodeNo;
@@ -30,7 +30,7 @@ pub fn set_chain(s: &mut [u64], head: NodeNo, free: u64)
 pub fn free_node(s: &mut StoreMut<'_>, n: NodeNo)
     requires n_lt_pool { (n.0 < s.old.layout.pool) × (free_count s.old.words.now ≤ 65535) }
     ensures words { s.new.words.now ≡ freed (shape_of s.old.layout) s.old.words.now n.0 }
-    ensures kept { Kept s.old s.new }
+    ensures kept { SameLoan s.old s.new }
 {
     let head = s.read()[3];
     let free = s.read()[4];

@@ -6,7 +6,7 @@ ghost use Rattle.std.specs.Prelude.{◌≡◌, ◌+◌, ◌≤◌, ◌<◌};
 ghost use Rattle.model.specs.Words.{copied};
 ghost use Rattle.model.specs.Prune.{moved};
 ghost use Rattle.node_read.specs.Layout.{shape_of};
-ghost use Rattle.node_read.specs.Store.{Kept};
+ghost use Rattle.node_read.specs.Store.{SameLoan};
 
 use model::id::NodeNo;
 use node_read::store::StoreMut;
@@ -17,7 +17,7 @@ use node_write::write;
 pub fn copy_node(s: &mut StoreMut<'_>, from: NodeNo, to: NodeNo)
     requires from_lt_pool { (from.0 < s.old.layout.pool) × (to.0 < s.old.layout.pool) }
     ensures words { s.new.words.now ≡ copied (shape_of s.old.layout) s.old.words.now from.0 to.0 }
-    ensures kept { Kept s.old s.new }
+    ensures kept { SameLoan s.old s.new }
 {
     let size = s.layout.node_size();
     // no `copy_within`: up to 1.4 times as slow where `to` is above `from`
@@ -32,7 +32,7 @@ pub fn copy_node(s: &mut StoreMut<'_>, from: NodeNo, to: NodeNo)
 pub fn move_front(s: &mut StoreMut<'_>, n: NodeNo, k: u64, m: u64)
     requires n_lt_pool { (n.0 < s.old.layout.pool) × (k + m ≤ s.old.layout.capacity) }
     ensures words { s.new.words.now ≡ moved (shape_of s.old.layout) s.old.words.now n.0 k 0 m }
-    ensures kept { Kept s.old s.new }
+    ensures kept { SameLoan s.old s.new }
 {
     let first = s.layout.place(n, s.layout.row_place(0));
     let at = first + 2 * k as usize;

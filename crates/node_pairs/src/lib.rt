@@ -5,7 +5,7 @@
 ghost use Rattle.std.specs.Prelude.{◌≡◌, ℕ, ◌+◌, ◌<◌};
 ghost use Rattle.model.specs.Words.{added, count, put};
 ghost use Rattle.node_read.specs.Layout.{shape_of};
-ghost use Rattle.node_read.specs.Store.{Kept};
+ghost use Rattle.node_read.specs.Store.{SameLoan};
 ghost use Rattle.node_write.specs.Write.{put_entry};
 
 use model::id::{NodeNo, PageID, RowID};
@@ -40,7 +40,7 @@ impl PairNumber for NodeNo {
 pub fn put_pair<T: PairNumber>(s: &mut StoreMut<'_>, n: NodeNo, i: u64, row: RowID, x: T)
     requires n_lt_pool { (n.0 < s.old.layout.pool) × (i < s.old.layout.capacity) }
     ensures words { s.new.words.now ≡ put_entry (shape_of s.old.layout) s.old.words.now n.0 i row.0 (T.number x) }
-    ensures kept { Kept s.old s.new }
+    ensures kept { SameLoan s.old s.new }
 {
     let l = s.layout;
     write::put(s, n, l.row_place(i), row.0);
@@ -52,7 +52,7 @@ pub fn put_pair<T: PairNumber>(s: &mut StoreMut<'_>, n: NodeNo, i: u64, row: Row
 pub fn add_pair<T: PairNumber>(s: &mut StoreMut<'_>, n: NodeNo, row: RowID, x: T)
     requires n_lt_pool { (n.0 < s.old.layout.pool) × (count (shape_of s.old.layout) s.old.words.now n.0 < s.old.layout.capacity) }
     ensures words { s.new.words.now ≡ added (shape_of s.old.layout) s.old.words.now n.0 row.0 (T.number x) }
-    ensures kept { Kept s.old s.new }
+    ensures kept { SameLoan s.old s.new }
 {
     let k = s.layout.header(s.read(), n).count;
     put_pair(s, n, k, row, x);

@@ -3,6 +3,6 @@ use Rattle.std.specs.Prelude.{◌≡◌}
 use Rattle.node_read.specs.declared.store.StoreMut.{StoreMut}
 
 -- the layout is the same, and so is the reference
-pub record Kept (before after : StoreMut) : Type 0 where
+pub record SameLoan (before after : StoreMut) : Type 0 where
   pub layout : after.layout ≡ before.layout
   pub reference : after.words.ghost_name ≡ before.words.ghost_name

@@ -3,7 +3,7 @@
 ghost use Rattle.std.specs.Prelude.{◌≡◌, ◌<◌, length, set};
 ghost use Rattle.model.specs.Words.{count, emptied, node_size, put};
 ghost use Rattle.node_read.specs.Layout.{shape_of};
-ghost use Rattle.node_read.specs.Store.{Kept};
+ghost use Rattle.node_read.specs.Store.{SameLoan};
 ghost use Rattle.node_write.specs.Write.{put_header};
 
 use model::id::{NodeNo, RowID};
@@ -23,7 +23,7 @@ pub fn set_word(s: &mut [u64], i: usize, x: u64)
 pub fn put(s: &mut StoreMut<'_>, n: NodeNo, j: u64, x: u64)
     requires n_lt_pool { (n.0 < s.old.layout.pool) × (j < node_size s.old.layout.capacity) }
     ensures words { s.new.words.now ≡ put (shape_of s.old.layout) s.old.words.now n.0 j x }
-    ensures kept { Kept s.old s.new }
+    ensures kept { SameLoan s.old s.new }
 {
     let at = s.layout.place(n, j);
     s.words[at] = x;
@@ -33,7 +33,7 @@ pub fn put(s: &mut StoreMut<'_>, n: NodeNo, j: u64, x: u64)
 pub fn put_header(s: &mut StoreMut<'_>, n: NodeNo, h: RowPageIndexNodeHeader)
     requires n_lt_pool { n.0 < s.old.layout.pool }
     ensures words { s.new.words.now ≡ put_header (shape_of s.old.layout) s.old.words.now n.0 h }
-    ensures kept { Kept s.old s.new }
+    ensures kept { SameLoan s.old s.new }
 {
     put(s, n, 0, h.height);
     put(s, n, 1, h.count);
@@ -46,7 +46,7 @@ pub fn put_header(s: &mut StoreMut<'_>, n: NodeNo, h: RowPageIndexNodeHeader)
 pub fn empty_node(s: &mut StoreMut<'_>, n: NodeNo, start: RowID)
     requires n_lt_pool { n.0 < s.old.layout.pool }
     ensures words { s.new.words.now ≡ emptied (shape_of s.old.layout) s.old.words.now n.0 start.0 }
-    ensures kept { Kept s.old s.new }
+    ensures kept { SameLoan s.old s.new }
 {
     let header = RowPageIndexNodeHeader {
         height: 0,

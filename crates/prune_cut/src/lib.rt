@@ -5,7 +5,7 @@
 ghost use Rattle.std.specs.Prelude.{◌≡◌, ◌+◌, ◌-◌, ◌<◌, length};
 ghost use Rattle.model.specs.Refusals.{pruned};
 ghost use Rattle.node_read.specs.Layout.{shape_of};
-ghost use Rattle.node_read.specs.Store.{Kept};
+ghost use Rattle.node_read.specs.Store.{SameLoan};
 ghost use Rattle.node_chain.specs.Chain.{listed};
 ghost use Rattle.prune_boundary.specs.Trims.{trims_of};
 ghost use Rattle.prune_cut.specs.Found.{AllGo, EdgedIn, RootedIn, SomeStay, cut_at_in, cut_in, reset_in};
@@ -26,7 +26,7 @@ use tree_free;
 fn write_edge(s: &mut StoreMut<'_>, root: NodeNo, end: RowID, b: Boundary, nodes: &[NodeNo])
     requires { Writable (shape_of s.old.layout) s.old.layout.pool s.old.words.now root.0 b.edge b.gone nodes.now }
     ensures words { s.new.words.now ≡ cut_words (shape_of s.old.layout) s.old.words.now root.0 end.0 (trims_of b.edge) (listed nodes.now 0 (length nodes.now)) }
-    ensures kept { Kept s.old s.new }
+    ensures kept { SameLoan s.old s.new }
 {
     tree_free::free_first(s, root, b.gone);
     prune_write::trim_all(s, b.edge, end);
@@ -38,7 +38,7 @@ fn write_edge(s: &mut StoreMut<'_>, root: NodeNo, end: RowID, b: Boundary, nodes
 fn write_reset(s: &mut StoreMut<'_>, root: NodeNo, end: RowID, b: Boundary)
     requires { Resettable (shape_of s.old.layout) s.old.layout.pool s.old.words.now root.0 b.edge b.gone }
     ensures words { s.new.words.now ≡ reset_words (shape_of s.old.layout) s.old.words.now root.0 end.0 (trims_of b.edge) }
-    ensures kept { Kept s.old s.new }
+    ensures kept { SameLoan s.old s.new }
 {
     tree_free::free_first(s, root, b.gone);
     write::empty_node(s, root, end);

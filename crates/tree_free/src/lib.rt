@@ -7,7 +7,7 @@ ghost use Rattle.model.specs.Words.{free_all};
 ghost use Rattle.model.specs.Reading.{root_nodes};
 ghost use Rattle.tree_free.specs.CanFree.{CanFree};
 ghost use Rattle.node_read.specs.Layout.{shape_of};
-ghost use Rattle.node_read.specs.Store.{Kept};
+ghost use Rattle.node_read.specs.Store.{SameLoan};
 
 use model::id::NodeNo;
 use model::path::Path;
@@ -19,7 +19,7 @@ use tree_turn::turn;
 pub fn free_first(s: &mut StoreMut<'_>, root: NodeNo, k: u64)
     requires { CanFree (shape_of s.old.layout) s.old.layout.pool s.old.words.now root.0 k }
     ensures words { s.new.words.now ≡ free_all (shape_of s.old.layout) s.old.words.now (take k (root_nodes (shape_of s.old.layout) s.old.words.now root.0)) }
-    ensures kept { Kept s.old s.new }
+    ensures kept { SameLoan s.old s.new }
 {
     let mut path = Path::rooted(root);
     let mut freed: u64 = 0;

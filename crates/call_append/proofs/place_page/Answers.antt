@@ -15,7 +15,7 @@ pub returns-then-room-eq0 : goal.returns-then-room-eq0
 returns-then-room-eq0 c =
     let a = c.args in
     let q = placed-leaf (shape_of a.h.layout) a.h.layout.pool a.s.now a.h.root.0 a.new.start.0 a.new.end.0 a.new.page.0 (room_of a.room) c.if-room-eq0.true in
-    record { answer = sym (ap (λ (o : Outcome). o.answer) q); words = c.hang_page.ensures ∙ sym (ap (λ (o : Outcome). o.words) q) }
+    record { answer = sym (ap (λ (o : Outcome). o.answer) q); words = search rules ∙ sym (ap (λ (o : Outcome). o.words) q) }
 
 pub grow_tree-requires-clause-inside : goal.grow_tree-requires-clause-inside
 grow_tree-requires-clause-inside c =

@@ -1,3 +1,4 @@
+use borrow.Author.Rules.{rules}
 use native.Mathlib.Omega.{arith}
 use Rattle.prune_cut.proofs.Edges.{resettable, all-full, all_done}
 use Rattle.prune_cut.proofs.prune_all.Goals as goal
@@ -16,4 +17,4 @@ write_reset-requires c = let p = c.requires in resettable p.0 p.1 c.if-h-b.false
 pub returns : goal.returns
 returns c =
     let e = all_done c.requires.0 c.requires.1 c.if-h-b.false c.args.k in
-    record { answer = rw e; words = rw e c.write_reset.ensures }
+    record { answer = rw e; words = rw e (search rules) }

@@ -35,4 +35,4 @@ pub returns : goal.returns
 returns c =
     let p = c.requires in
     let e = some-done p.0 p.1 p.2 _ _ c.in_ok-copies.ensures.are c.if-h-freed.false (search rules) c.args.k in
-    record { answer = rw e; words = rw e c.write_edge.ensures }
+    record { answer = rw e; words = rw e (search rules) }
