@@ -1,8 +1,9 @@
 -- What the reading functions answer, on words.
-use Rattle.std.specs.Prelude.{ℕ, List, Result, Ok, Err, eqb}
-use Rattle.model.specs.Words.{lent, Shape, shape, pick, capacity, pool, root, free_head, free_count, height, count, start, end, Header}
+use Rattle.std.specs.Prelude.{ℕ, ◌+◌, List, Option, Some, None, Result, Ok, Err, eqb, ltb}
+use Rattle.model.specs.Words.{lent, Shape, shape, pick, capacity, pool, root, free_head, free_count, height, count, start, end, row, Header}
 use Rattle.model.specs.Refusals.{header_ok}
 use Rattle.model.specs.declared.node.RowPageIndexNodeHeader.{RowPageIndexNodeHeader}
+use Rattle.model.specs.declared.id.RowID.{RowID}
 use Rattle.model.specs.declared.answer.Refusal.{Refusal}
 use Rattle.model.specs.declared.answer.Refusal.TheVariants.{Closed, Unsound}
 use Rattle.node_read.specs.declared.layout.Layout.{Layout}
@@ -24,6 +25,10 @@ header_at C w n =
       start_row_id = record { 0 = start C w n };
       end_row_id = record { 0 = end C w n };
     }
+
+-- the row of the entry after entry i of node n, if there is one
+unfoldable pub row_after : Shape → List ℕ → ℕ → ℕ → Option RowID
+row_after C w n i = pick (ltb (i + 1) (count C w n)) (Some (record { 0 = row C w n (i + 1) })) None
 
 abbrev pub store_header : List ℕ → StoreHeader
 store_header w =

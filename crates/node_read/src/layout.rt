@@ -1,8 +1,8 @@
 // Which capacity, pool and length make a store, and where its words lie. Nothing else knows.
 
 ghost use Rattle.std.specs.Prelude.{◌≡◌, ◌+◌, ◌*◌, ◌≤◌, ◌<◌, length, ltb};
-ghost use Rattle.model.specs.Words.{child, child_place, in_range, node_size, pair_words, part, row, row_place, sized, store_length, word_place};
-ghost use Rattle.node_read.specs.Layout.{Fits, header_at, shape_of};
+ghost use Rattle.model.specs.Words.{child, child_place, count, in_range, node_size, pair_words, part, row, row_place, sized, store_length, word_place};
+ghost use Rattle.node_read.specs.Layout.{Fits, header_at, row_after, shape_of};
 
 use model::id::{NodeNo, PageID, RowID};
 use model::node::RowPageIndexNodeHeader;
@@ -146,6 +146,17 @@ impl Layout {
         ensures { result.0 ≡ row (shape_of self) s.now n.0 i }
     {
         RowID(self.part(s, n, self.row_place(i)))
+    }
+
+    // The row of the entry after entry i of a node, if there is one.
+    #[tactic(auto, unfolding(crate::specs::Layout::row_after))]
+    pub fn row_after(self, s: &[u64], n: NodeNo, i: u64) -> Option<RowID>
+        requires fits { Fits self s.now }
+        requires n_lt_pool { (n.0 < self.pool) × (i < count (shape_of self) s.now n.0) × (count (shape_of self) s.now n.0 ≤ self.capacity) }
+        ensures { result ≡ row_after (shape_of self) s.now n.0 i }
+    {
+        let count = self.header(s, n).count;
+        (i + 1 < count).then(|| self.row(s, n, i + 1))
     }
 
     // Child number i of a branch.

@@ -20,17 +20,14 @@ pub struct Progress {
 }
 
 // The end of entry i of leaf n.
-#[tactic(auto, unfolding(model::specs::Prune::entry_end))]
+#[tactic(auto, unfolding(model::specs::Prune::entry_end, node_read::specs::Layout::row_after))]
 fn entry_end(l: Layout, s: &[u64], n: NodeNo, i: u64) -> RowID
     requires fits { Fits l s.now }
     requires n_lt_pool { (n.0 < l.pool) × (i < count (shape_of l) s.now n.0) × (count (shape_of l) s.now n.0 ≤ l.capacity) }
     ensures { result.0 ≡ entry_end (shape_of l) s.now n.0 i }
 {
-    let h = l.header(s, n);
-    if i + 1 < h.count {
-        return l.row(s, n, i + 1);
-    }
-    h.end_row_id
+    let end = l.header(s, n).end_row_id;
+    l.row_after(s, n, i).unwrap_or(end)
 }
 
 // The entries of node n, where it is a leaf, against the ids from a place on; or why the list is refused.

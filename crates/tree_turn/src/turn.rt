@@ -28,17 +28,13 @@ pub fn has_child(l: Layout, s: &[u64], n: NodeNo, i: u64) -> bool
 }
 
 // What is next for entry i of node n.
-#[tactic(auto, unfolding(model::specs::Reading::next_row))]
+#[tactic(auto, unfolding(model::specs::Reading::next_row, node_read::specs::Layout::row_after))]
 pub fn next_row(l: Layout, s: &[u64], n: NodeNo, i: u64, next: Option<RowID>) -> Option<RowID>
     requires fits { Fits l s.now }
     requires n_lt_pool { (n.0 < l.pool) × (i < count (shape_of l) s.now n.0) × (count (shape_of l) s.now n.0 ≤ l.capacity) }
     ensures { limit_of result ≡ next_row (shape_of l) s.now n.0 i (limit_of next) }
 {
-    let h = l.header(s, n);
-    if i + 1 < h.count {
-        return Some(l.row(s, n, i + 1));
-    }
-    next
+    l.row_after(s, n, i).or(next)
 }
 
 // Whether the node at a position has no child left, so that it is left.
