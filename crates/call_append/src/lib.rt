@@ -63,22 +63,23 @@ fn place_page(
     ensures answer { inserted result ≡ (placed (shape_of h.layout) h.layout.pool s.old h.root.0 new.start.0 new.end.0 new.page.0 (room_of room)).answer }
     ensures words { s.new ≡ (placed (shape_of h.layout) h.layout.pool s.old h.root.0 new.start.0 new.end.0 new.page.0 (room_of room)).words }
 {
-    let l = h.layout;
+    let layout = h.layout;
     let done = RowPageIndexInsert {
         start_row_id: new.start,
         end_row_id: new.end,
         taken_nodes: room.needed,
     };
     if room.needed == 0 {
-        append_write::hang_page(&mut StoreMut { layout: l, words: s }, room.node, new);
+        append_write::hang_page(&mut StoreMut { layout, words: s }, room.node, new);
         return Ok(done);
     }
     let k = room.needed as usize;
-    let Some(wanted) = node_chain::read_chain(l, &s[..], h.free_head, k) else {
+    let Some(wanted) = node_chain::read_chain(layout, &s[..], h.free_head, k) else {
         return Err(Refusal::Unsound(NodeNo::HEADER));
     };
-    let mut store = StoreMut { layout: l, words: s };
-    grow_tree(&mut store, h.root, root_height, room, new, &wanted.nodes[..k]);
+    let mut store = StoreMut { layout, words: s };
+    let nodes = &wanted.nodes[..k];
+    grow_tree(&mut store, h.root, root_height, room, new, nodes);
     node_chain::set_chain(s, wanted.next, h.free_count - room.needed);
     Ok(done)
 }

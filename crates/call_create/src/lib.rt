@@ -43,18 +43,18 @@ pub fn new(s: &mut [u64], capacity: u64, nodes: u64, start: RowID) -> Result<(),
     ensures answer { created result ≡ (create lent s.old capacity nodes start.0).answer }
     ensures words { s.new ≡ (create lent s.old capacity nodes start.0).words }
 {
-    let l = Layout {
+    let layout = Layout {
         capacity,
         pool: nodes,
     };
-    if !l.fits(&s[..]) {
+    if !layout.fits(&s[..]) {
         return Err(Refusal::BadParameters);
     }
     if RowID::LIMIT < start {
         return Err(Refusal::RowLimit);
     }
     write_header(s, capacity, nodes);
-    let mut store = StoreMut { layout: l, words: s };
+    let mut store = StoreMut { layout, words: s };
     write::empty_node(&mut store, NodeNo(0), start);
     link_nodes(&mut store);
     Ok(())

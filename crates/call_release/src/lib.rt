@@ -54,19 +54,20 @@ pub fn destroy(s: &mut [u64], pivot: RowID, pages: &mut [u64]) -> Result<Release
     ensures list { pages.new ≡ (destroy lent s.old pivot.0 pages.old).list }
 {
     let h = header::open(&s[..])?;
-    let l = h.layout;
+    let layout = h.layout;
     let root = h.root;
-    let counts = tree_survey::survey_tree(l, &s[..], false, root)?;
-    if let Some(first) = first_below(l, &s[..], root, counts.entries, pivot) {
+    let counts = tree_survey::survey_tree(layout, &s[..], false, root)?;
+    if let Some(first) = first_below(layout, &s[..], root, counts.entries, pivot) {
         return Err(Refusal::RowBelowPivot(first));
     }
     if (pages.len() as u64) < counts.entries {
         return Err(Refusal::ListTooShort(counts.entries));
     }
-    if l.pool < h.free_count + counts.nodes {
+    if layout.pool < h.free_count + counts.nodes {
         return Err(Refusal::Unsound(NodeNo::HEADER));
     }
-    destroy_tree(&mut StoreMut { layout: l, words: s }, root, counts.nodes, pages);
+    let mut store = StoreMut { layout, words: s };
+    destroy_tree(&mut store, root, counts.nodes, pages);
     Ok(Released {
         nodes: counts.nodes,
         pages: counts.entries,

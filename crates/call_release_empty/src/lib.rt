@@ -22,18 +22,18 @@ pub fn destroy_empty(s: &mut [u64]) -> Result<Released, Refusal>
     ensures words { s.new ≡ (destroy_empty lent s.old).words }
 {
     let h = header::open(&s[..])?;
-    let l = h.layout;
+    let layout = h.layout;
     let root = h.root;
-    if !node_root::is_sound_root(l, &s[..], root) {
+    if !node_root::is_sound_root(layout, &s[..], root) {
         return Err(Refusal::Unsound(root));
     }
-    if !node_root::is_empty_root(l, &s[..], root) {
+    if !node_root::is_empty_root(layout, &s[..], root) {
         return Err(Refusal::RowBelowPivot(RowID(0)));
     }
-    if l.pool < h.free_count + 1 {
+    if layout.pool < h.free_count + 1 {
         return Err(Refusal::Unsound(NodeNo::HEADER));
     }
-    node_chain::free_node(&mut StoreMut { layout: l, words: s }, root);
-    write::set_word(s, 2, l.pool);
+    node_chain::free_node(&mut StoreMut { layout, words: s }, root);
+    write::set_word(s, 2, layout.pool);
     Ok(Released { nodes: 1, pages: 0 })
 }

@@ -59,10 +59,8 @@ fn prune_all(
     if h.layout.pool - h.free_count < b.gone {
         return Err(Refusal::Unsound(NodeNo::HEADER));
     }
-    let mut store = StoreMut {
-        layout: h.layout,
-        words: s,
-    };
+    let layout = h.layout;
+    let mut store = StoreMut { layout, words: s };
     write_reset(&mut store, h.root, end, b);
     Ok(RowPagePrefixPrune {
         removed_entries: k,
@@ -89,10 +87,8 @@ fn prune_some(
     if h.layout.pool - h.free_count < freed {
         return Err(Refusal::Unsound(NodeNo::HEADER));
     }
-    let mut store = StoreMut {
-        layout: h.layout,
-        words: s,
-    };
+    let layout = h.layout;
+    let mut store = StoreMut { layout, words: s };
     write_edge(&mut store, h.root, end, b, &copies.nodes[..copies.count]);
     Ok(RowPagePrefixPrune {
         removed_entries: k,
