@@ -49,6 +49,7 @@ fn fresh_node<T: PairNumber>(
 
 // A path of one-entry nodes over the page, the top first. New branches end at NONE.
 #[tactic(auto, using(crate::proofs::NewPaths::path_turn, crate::proofs::NewPaths::inside_at, crate::proofs::NewPaths::path_end))]
+#[inline(always)]
 pub fn new_path(s: &mut StoreMut<'_>, new: NewPage, nodes: &[NodeNo])
     requires some { 0 < length nodes.now }
     requires inside { Inside s.old.layout.pool (numbers nodes.now) }

@@ -74,9 +74,8 @@ fn place_page(
         return Ok(done);
     }
     let k = room.needed as usize;
-    let Some(wanted) = node_chain::read_chain(layout, &s[..], h.free_head, k) else {
-        return Err(Refusal::Unsound(NodeNo::HEADER));
-    };
+    let wanted = node_chain::read_chain(layout, &s[..], h.free_head, k)
+        .ok_or(Refusal::Unsound(NodeNo::HEADER))?;
     let mut store = StoreMut { layout, words: s };
     let nodes = &wanted.nodes[..k];
     grow_tree(&mut store, h.root, root_height, room, new, nodes);

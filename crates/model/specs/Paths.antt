@@ -38,10 +38,6 @@ rooted n = record { positions = replicate 32 (entered n); depth = 1 }
 abbrev pub popped : Path → Path
 popped p = record { positions = p.positions; depth = p.depth - 1 }
 
--- one more position below the last
-abbrev pub pushed : Path → Position → Path
-pushed p at = record { positions = set p.positions p.depth at; depth = p.depth + 1 }
-
 abbrev pub turned_path : Path → Path
 turned_path p = record { positions = set p.positions (p.depth - 1) (turned (last_of p)); depth = p.depth }
 

@@ -1,7 +1,7 @@
 // The path from the root to a node.
 
 ghost use Rattle.std.specs.Prelude.{◌≡◌, [], ◌+◌, ◌<◌, ◌≤◌};
-ghost use Rattle.model.specs.Paths.{entered, entered_path, last_of, popped, pushed, rooted, trail, turned};
+ghost use Rattle.model.specs.Paths.{entered, entered_path, last_of, popped, rooted, trail, turned};
 
 use crate::id::NodeNo;
 
@@ -68,15 +68,6 @@ impl Path {
         self.positions[self.depth - 1]
     }
 
-    // One more position below the last.
-    pub fn push(&mut self, at: Position)
-        requires { self.old.depth < 32 }
-        ensures { self.new ≡ pushed self.old at }
-    {
-        self.positions[self.depth] = at;
-        self.depth += 1;
-    }
-
     // The last position moves on to its next entry, and a child is entered below it.
     pub fn enter(&mut self, child: NodeNo)
         requires depth { (0 < self.old.depth) × (self.old.depth < 32) }
@@ -85,7 +76,8 @@ impl Path {
     {
         let at = self.depth - 1;
         self.positions[at] = self.positions[at].turned();
-        self.push(Position::entered(child));
+        self.positions[self.depth] = Position::entered(child);
+        self.depth += 1;
     }
 
     // The last position is left.

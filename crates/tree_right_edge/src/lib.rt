@@ -59,10 +59,8 @@ fn go_down(
     requires height_le_max_height { height ≤ max_height }
     ensures { Descended (shape_of l) l.pool s.now height root.0 row.0 result }
 {
-    let mut path = Path {
-        positions: [Position::entered(root); 32],
-        depth: 0,
-    };
+    // no Path with a method that stores: append at C = 2 took 1.14 times as long
+    let mut positions = [Position::entered(root); 32];
     let mut room = Room {
         node: root,
         needed: height + 2,
@@ -71,6 +69,7 @@ fn go_down(
     let mut n = root;
     let mut h = height;
     let mut r = row;
+    let mut depth: usize = 0;
     // no `for` over heights: the leaf is tested and stored as the others are, and has no child
     loop {
         if !l.has_node(n) {
@@ -85,10 +84,11 @@ fn go_down(
             room = Room { node: n, needed: h };
         }
         let index = head.count - 1;
-        path.push(Position { node: n, index });
+        positions[depth] = Position { node: n, index };
+        depth += 1;
         if h == 0 {
             return Ok(RightEdge {
-                path,
+                path: Path { positions, depth },
                 leaf: n,
                 room,
             });
