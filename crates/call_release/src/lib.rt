@@ -23,6 +23,7 @@ use tree_survey;
 
 // A sound tree of k nodes: its page ids go into the list, its nodes into the chain, and the root word closes the store.
 #[tactic(auto, unfolding(model::specs::Release::released_words), using(crate::proofs::Deciding::all_freed))]
+#[inline(always)]
 fn destroy_tree(s: &mut StoreMut<'_>, root: NodeNo, k: u64, pages: &mut [u64])
     requires releasable { Releasable (shape_of s.old.layout) s.old.layout.pool s.old.words.now root.0 k }
     requires k_value { (k ≡ length (root_nodes (shape_of s.old.layout) s.old.words.now root.0)) × (length (root_entries (shape_of s.old.layout) s.old.words.now root.0) ≤ length pages.old) }

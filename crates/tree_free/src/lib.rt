@@ -16,6 +16,7 @@ use node_read::store::StoreMut;
 use tree_turn::turn;
 
 // Frees the first k nodes, in postorder, of the tree from root.
+#[inline(always)]
 pub fn free_first(s: &mut StoreMut<'_>, root: NodeNo, k: u64)
     requires { CanFree (shape_of s.old.layout) s.old.layout.pool s.old.words.now root.0 k }
     ensures words { s.new.words.now ≡ free_all (shape_of s.old.layout) s.old.words.now (take k (root_nodes (shape_of s.old.layout) s.old.words.now root.0)) }
