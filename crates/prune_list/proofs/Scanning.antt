@@ -95,12 +95,12 @@ module _ {C : Shape} {P : ℕ} {w : List ℕ} {e root : ℕ} {ids : List ℕ} {S
       unfolding scan spoilt ran_out
       scanning_bad {x} q = sym (G.told ∙ rw ((turn-bad G.walking z q.tells false).one, one_left ids named l, scan-stopped C w e (left false C P w (turned_path p)) 2 x.0.0))
 
-      module _ (d₁ : Entered) (q₁ : Turned C P w t (Ok (Some d₁)) v) where
+      module _ (kid : Entered) (goes : Turned C P w t (Ok (Some kid)) v) where
         abbrev c : ℕ
-        c = d₁.child.0
+        c = kid.child.0
 
-        abbrev f : down d₁.child.0 (limit_of d₁.next) d₁.first ≡ turn_at C P w t
-        f = q₁.tells
+        abbrev f : down kid.child.0 (limit_of kid.next) kid.first ≡ turn_at C P w t
+        f = goes.tells
 
         abbrev of_node : Scan
         of_node = pick (eqb (height C w c) 0) (scan_leaf C w e c 0 (count C w c) (on (drop named ids) named to)) (on (drop named ids) named to)
@@ -131,10 +131,10 @@ module _ {C : Shape} {P : ℕ} {w : List ℕ} {e root : ℕ} {ids : List ℕ} {S
         pub scanning_down : (named₂ to₂ : ℕ) → on (drop named₂ ids) named₂ to₂ ≡ of_node → Scanning C P w e root ids S v named₂ to₂ (named₂ - named) nodes
         unfolding lefts
         scanning_down named₂ to₂ q =
-            subst (λ (u : TreeWalk). Scanning C P w e root ids S u named₂ to₂ (named₂ - named) nodes) (sym q₁.after) (record {
-              walking = held_down G.walking z d₁ f;
+            subst (λ (u : TreeWalk). Scanning C P w e root ids S u named₂ to₂ (named₂ - named) nodes) (sym goes.after) (record {
+              walking = held_down G.walking z kid f;
               told = entering ∙ rw (← q);
-              behind = path_in C P w root p z G.behind (G.walking.beside (p.depth - 1) (omega arith)).next-is (went C P w (last_of p).node.0 (last_of p).index _ c (limit_of d₁.next) d₁.first f) (entered-trail p z G.walking.long c (room G.walking z f));
+              behind = path_in C P w root p z G.behind (G.walking.beside (p.depth - 1) (omega arith)).next-is (went C P w (last_of p).node.0 (last_of p).index _ c (limit_of kid.next) kid.first f) (entered-trail p z G.walking.long c (room G.walking z f));
               named-last = λ m. (omega arith, at-child named₂ to₂ ((noded C w e c named to (drop named ids) named₂ to₂ (drop named₂ ids) q).1 (omega arith)));
               seen = G.seen ++ (Enter c ∷ []);
               walked = walked_in G.walked z c G.walking.long (room G.walking z f) (turn-down G.walking z f false refl);

@@ -1,4 +1,4 @@
--- A path that is stored to in place with what stands beside its positions, and what a turn keeps of it.
+-- What a turn of a walk keeps.
 use Prim.Native.Nat.{ℕ, suc, ◌-◌, ◌<◌, ◌≤◌, zero-le}
 use mathlib.Core.List.{List, [], ◌∷◌}
 use mathlib.Core.Bool.{Bool, true, false, not, ◌&&◌, and-true}
@@ -157,42 +157,42 @@ module _ {C : Shape} {P : ℕ} {w : List ℕ} {t : TreeWalk} (H : Walking C P w 
         subst (λ (x : ℕ). Moves true C P w p (Bad x) (turned_path p)) (sym W.number)
         (bad_move true C P w p H.valid z (turned_path p) (height C w n - 1) (tall W.has) (inside W.has) W.range (pass true false f) (turned-trail p z H.long H.deep))
 
-  module _ (d₁ : Entered) (e : down d₁.child.0 (limit_of d₁.next) d₁.first ≡ turn_at C P w t) where
+  module _ (kid : Entered) (e : down kid.child.0 (limit_of kid.next) kid.first ≡ turn_at C P w t) where
     abbrev c : ℕ
-    c = d₁.child.0
+    c = kid.child.0
 
     abbrev After : ℕ → Type 0
-    After d = Beside C P w (entered_walk t d₁) d
+    After d = Beside C P w (entered_walk t kid) d
 
     -- beside a position that was there, and is moved on where it was the last
     kept : (d : ℕ) → d < p.depth → (q : Position) → get_or (entered_path p c).positions d no_position ≡ q → q.node ≡ (get_or p.positions d no_position).node → q.index ≤ get_or t.firsts d 0 → After d
     kept d l q g s a =
         let o = H.beside d l in
         record {
-          next-is = ap limit_of (get_or-set_other t.nexts p.depth d d₁.next None (λ x. omega arith)) ∙ o.next-is ∙ ap (bound C w) (sym (entered-above p z H.long c d (omega arith)));
-          first-is = get_or-set_other t.firsts p.depth d d₁.first 0 (λ x. omega arith) ∙ o.first-is ∙ rw (g, s);
-          ahead = omega (arith, a, get_or-set_other t.firsts p.depth d d₁.first 0 (λ x. omega arith), ap (λ (x : Position). x.index) g);
+          next-is = ap limit_of (get_or-set_other t.nexts p.depth d kid.next None (λ x. omega arith)) ∙ o.next-is ∙ ap (bound C w) (sym (entered-above p z H.long c d (omega arith)));
+          first-is = get_or-set_other t.firsts p.depth d kid.first 0 (λ x. omega arith) ∙ o.first-is ∙ rw (g, s);
+          ahead = omega (arith, a, get_or-set_other t.firsts p.depth d kid.first 0 (λ x. omega arith), ap (λ (x : Position). x.index) g);
         }
 
     -- beside the child
     new : After p.depth
     new =
         let q = entered-last p z H.long c (room e) in
-        let f : d₁.first ≡ out_of C P w (height C w c) c = (W e).out ∙ ap (λ (x : ℕ). out_of C P w (height C w n - 1) x) (sym (W e).number) ∙ ap (λ (x : ℕ). out_of C P w x c) (sym (high e)) in
+        let f : kid.first ≡ out_of C P w (height C w c) c = (W e).out ∙ ap (λ (x : ℕ). out_of C P w (height C w n - 1) x) (sym (W e).number) ∙ ap (λ (x : ℕ). out_of C P w x c) (sym (high e)) in
         record {
-          next-is = ap limit_of (get_or-set_same t.nexts p.depth d₁.next None (omega (arith, room e, H.long-next))) ∙ (W e).beyond ∙ sym (ap (bound C w) (entered-under p z H.long c H.deep) ∙ next-is);
-          first-is = get_or-set_same t.firsts p.depth d₁.first 0 (omega (arith, room e, H.long-first)) ∙ f ∙ rw q;
+          next-is = ap limit_of (get_or-set_same t.nexts p.depth kid.next None (omega (arith, room e, H.long-next))) ∙ (W e).beyond ∙ sym (ap (bound C w) (entered-under p z H.long c H.deep) ∙ next-is);
+          first-is = get_or-set_same t.firsts p.depth kid.first 0 (omega (arith, room e, H.long-first)) ∙ f ∙ rw q;
           ahead = omega (arith, ap (λ (x : Position). x.index) q);
         }
 
-    pub held_down : Walking C P w (entered_walk t d₁)
+    pub held_down : Walking C P w (entered_walk t kid)
     held_down =
         record {
           valid = (turn-down e false refl).valid;
           deep = omega (arith, room e);
           long = entered-length p z H.long c;
-          long-next = length-set t.nexts p.depth d₁.next ∙ H.long-next;
-          long-first = length-set t.firsts p.depth d₁.first ∙ H.long-first;
+          long-next = length-set t.nexts p.depth kid.next ∙ H.long-next;
+          long-first = length-set t.firsts p.depth kid.first ∙ H.long-first;
           beside = λ d l. ⊎_elim (λ (x : suc d ≡ suc p.depth). let y : p.depth ≡ d = omega arith in subst After y new)
               (λ (x : suc d < suc p.depth). ⊎_elim
               (λ (y : d ≡ p.depth - 1). subst After (sym y) (kept (p.depth - 1) (omega arith) (turned (last_of p)) (entered-turned p z H.long c H.deep) refl (omega (arith, before placed (W e).has (W e).range))))

@@ -1,7 +1,6 @@
 use mathlib.Core.Path.{refl, sym, ◌∙◌}
 use native.Mathlib.Omega.{arith}
 use borrow.Author.Tests.{not-false}
-use Rattle.std.proofs.lemmas.Result.{err_from_is_err_and}
 use Rattle.tree_turn.proofs.Turns.{placed, done-up, held_up, room, short, held_down}
 use Rattle.tree_turn.proofs.walk.TreeWalk.turn.Goals as goal
 
@@ -16,11 +15,6 @@ returns-then-is_done c =
 
 pub tested-requires-clause-placed : goal.tested-requires-clause-placed
 tested-requires-clause-placed c = let p = c.requires in rw c.last-top.ensures (placed p.walking p.not_over, not-false _ (sym (rw c.last-top.ensures at c.is_done.ensures) ∙ c.if-is_done.false))
-
-pub returns-in_err-down : goal.returns-in_err-down
-returns-in_err-down c =
-    let p = err_from_is_err_and c.from_residual.result c.from_residual.ensures.1 in
-    rw (p.1, p.2) (record { tells = rw c.last-top.ensures at c.in_err-down.ensures; after = refl; walking = c.requires.walking })
 
 pub enter-requires : goal.enter-requires
 enter-requires c =
