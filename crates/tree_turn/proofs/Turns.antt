@@ -9,7 +9,7 @@ use native.Mathlib.Nat.{eq-or-lt_of_le}
 use lib.ListN.{get_or, set, length, length-set, replicate}
 use lib.Seq.{get_or-set_same, get_or-set_other}
 use lib.Dec.{T, ltb}
-use borrow.Author.Tests.{ltb-true, ltb-false, not-true}
+use borrow.Author.Tests.{ltb-true, ltb-false, not-true, not-false}
 use Rattle.model.specs.Words.{Shape, pick, height, count, end, row, child}
 use Rattle.model.specs.Tree.{Node, node_at, sound}
 use Rattle.model.specs.Tree as Tree
@@ -200,6 +200,8 @@ module _ {C : Shape} {P : ℕ} {w : List ℕ} {t : TreeWalk} (H : Walking C P w 
               (eq-or-lt_of_le (omega arith)))
               (eq-or-lt_of_le (omega arith));
         }
+
+pub ruleset walk_turn = (placed, done-up, held_up, room, short, held_down, not-false)
 
 -- The turn that tests nothing ----------------------------------------------------------------------------
 

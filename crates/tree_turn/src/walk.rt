@@ -42,6 +42,7 @@ impl TreeWalk {
     // The next turn: the last node is left where it is done, else its next child is tested and entered. Nothing is given where
     // the node was left.
     #[inline(always)]
+    #[tactic(auto, using(crate::proofs::Turns::walk_turn))]
     pub fn turn(&mut self, l: Layout, s: &[u64]) -> Result<Option<Entered>, UnsoundNode>
         requires fits { Fits l s.now }
         requires walking { Walking (shape_of l) l.pool s.now self.old }
