@@ -29,7 +29,7 @@ use Rattle.tree_turn.proofs.Rest.{left-none, child-good}
 use Rattle.tree_turn.proofs.Branch.{left_it, went}
 use Rattle.tree_turn.proofs.InPlace.{rooted-left, entered-trail, entered-last}
 use Rattle.tree_turn.proofs.Trace.{start-walked, walked-out, walked_in}
-use Rattle.tree_turn.proofs.Turns.{start-walking, turn_up, held_up, turn-bad, room, turn-down, held_down}
+use Rattle.tree_turn.proofs.Turns.{falls, start-walking, turn_up, held_up, turn-bad, room, turn-down, held_down}
 use Rattle.model.specs.Refusals.{Answer, result, refused}
 use Rattle.prune_boundary.specs.Behind.{Passed, BehindPath}
 use Rattle.prune_leaf.specs.Progress.{Last}
@@ -174,3 +174,5 @@ module _ (C : Shape) (P : ℕ) (w : List ℕ) (e n : ℕ) (inside-pool : n < P) 
   pub root-passed : Passed C P w (height C w n) n []
   unfolding bound
   root-passed = record { inside = inside-pool; good = sound-level C P w (height C w n) n (start C w n) Open pass }
+
+pub ruleset scan_turns = (falls, turn_up, turn-down)

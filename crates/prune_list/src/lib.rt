@@ -31,6 +31,7 @@ pub struct Prefix {
 
 // The leaves below a node that was entered, against the ids from a place on; what is named before is in that node. The walk is
 // changed in place.
+#[tactic(auto, unfolding(crate::specs::Named::Ending), using(crate::proofs::Scanning::scan_turns))]
 fn scan_below(
     l: Layout,
     s: &[u64],

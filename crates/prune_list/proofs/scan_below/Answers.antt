@@ -1,10 +1,9 @@
-use mathlib.Core.Bool.{false}
-use mathlib.Core.Path.{refl, sym, ◌∙◌}
+use mathlib.Core.Path.{sym, ◌∙◌}
 use native.Mathlib.Omega.{arith}
 use borrow.Author.Tests.{eqb-true, eqb-false}
 use Rattle.std.proofs.lemmas.Result.{err_from_is_err_and}
 use Rattle.model.specs.Refusals.{refusal}
-use Rattle.tree_turn.proofs.Turns.{falls, turn_up, narrow, turn-down}
+use Rattle.tree_turn.proofs.Turns.{narrow}
 use Rattle.prune_leaf.specs.Progress.{EndsAt}
 use Rattle.prune_list.specs.Named.{Ending}
 use Rattle.prune_list.proofs.Scanning.{start_scanning, used, used-ending, too_long, scanning_up, scanning_bad, scanning_stop, scanning_on, scanning_down}
@@ -16,22 +15,14 @@ loop-named-init c =
     let p = c.requires in
     rw c.rooted-walk.ensures (start_scanning _ _ _ a.end.0 a.ids.now a.node.0 a.first a.from.place a.from.reached.0 a.from.place p.valid p.first_value p.begun.0 p.begun.1)
 
-pub returns-then-is_over : goal.returns-then-is_over
-unfolding Ending
-returns-then-is_over c = record { answer = too_long c.loop-named.invariant c.loop-named-test.true (eqb-true _ _ (sym c.is_over.ensures ∙ c.if-is_over.true)); edge = tt }
+pub returns-then-is_over-clause-answer : goal.returns-then-is_over-clause-answer
+returns-then-is_over-clause-answer c = too_long c.loop-named.invariant c.loop-named-test.true (eqb-true _ _ (sym c.is_over.ensures ∙ c.if-is_over.true))
 
-pub returns-in_err-turn : goal.returns-in_err-turn
-unfolding Ending
-returns-in_err-turn c =
+pub returns-in_err-turn-clause-answer : goal.returns-in_err-turn-clause-answer
+returns-in_err-turn-clause-answer c =
     let z = eqb-false _ _ (sym c.is_over.ensures ∙ c.if-is_over.false) in
     let p = err_from_is_err_and c.from_residual.result c.from_residual.ensures.1 in
-    record { answer = rw (p.1, p.2) (scanning_bad c.loop-named.invariant c.loop-named-test.true (omega arith) c.in_err-turn.ensures); edge = rw p.1 tt }
-
-pub loop-named-smaller-in-None : goal.loop-named-smaller-in-None
-loop-named-smaller-in-None c =
-    let z = eqb-false _ _ (sym c.is_over.ensures ∙ c.if-is_over.false) in
-    let q = rw c.in-None.is at c.in_ok-turn.ensures in
-    rw q.after (falls (turn_up c.loop-named.invariant.walking (omega arith) q.tells false))
+    rw (p.1, p.2) (scanning_bad c.loop-named.invariant c.loop-named-test.true (omega arith) c.in_err-turn.ensures)
 
 pub loop-named-preserved-in-None : goal.loop-named-preserved-in-None
 loop-named-preserved-in-None c =
@@ -44,37 +35,26 @@ scan_node-requires-clause-n_lt_pool c =
     let q = rw c.in-Some.is at c.in_ok-turn.ensures in
     narrow c.loop-named.invariant.walking (omega arith) q.tells
 
-pub returns-in_err-more-in-Some : goal.returns-in_err-more-in-Some
-unfolding Ending
-returns-in_err-more-in-Some c =
+pub returns-in_err-more-in-Some-clause-answer : goal.returns-in_err-more-in-Some-clause-answer
+returns-in_err-more-in-Some-clause-answer c =
     let z = eqb-false _ _ (sym c.is_over.ensures ∙ c.if-is_over.false) in
-    let q = rw c.in-Some.is at c.in_ok-turn.ensures in
     let p = err_from_is_err_and c.from_residual-in_err-more-in-Some.result c.from_residual-in_err-more-in-Some.ensures.1 in
-    record { answer = rw (p.1, p.2) (scanning_stop c.loop-named.invariant c.loop-named-test.true (omega arith) _ q (refusal c.in_err-more-in-Some.field-0.0) c.in_err-more-in-Some.ensures); edge = rw p.1 tt }
+    rw (p.1, p.2) (scanning_stop c.loop-named.invariant c.loop-named-test.true (omega arith) _ (rw c.in-Some.is at c.in_ok-turn.ensures) (refusal c.in_err-more-in-Some.field-0.0) c.in_err-more-in-Some.ensures)
 
 pub overflow_sub-used : goal.overflow_sub-used
 overflow_sub-used c =
     let z = eqb-false _ _ (sym c.is_over.ensures ∙ c.if-is_over.false) in
-    let q = rw c.in-Some.is at c.in_ok-turn.ensures in
-    scanning_on c.loop-named.invariant c.loop-named-test.true (omega arith) _ q _ _ c.in_ok-more-in-Some.ensures
-
-pub loop-named-smaller : goal.loop-named-smaller
-loop-named-smaller c =
-    let z = eqb-false _ _ (sym c.is_over.ensures ∙ c.if-is_over.false) in
-    let q = rw c.in-Some.is at c.in_ok-turn.ensures in
-    rw q.after (falls (turn-down c.loop-named.invariant.walking (omega arith) q.tells false refl))
+    scanning_on c.loop-named.invariant c.loop-named-test.true (omega arith) _ (rw c.in-Some.is at c.in_ok-turn.ensures) _ _ c.in_ok-more-in-Some.ensures
 
 pub loop-named-preserved : goal.loop-named-preserved
 loop-named-preserved c =
     let z = eqb-false _ _ (sym c.is_over.ensures ∙ c.if-is_over.false) in
-    let q = rw c.in-Some.is at c.in_ok-turn.ensures in
-    scanning_down c.loop-named.invariant c.loop-named-test.true (omega arith) _ q _ _ c.in_ok-more-in-Some.ensures
+    scanning_down c.loop-named.invariant c.loop-named-test.true (omega arith) _ (rw c.in-Some.is at c.in_ok-turn.ensures) _ _ c.in_ok-more-in-Some.ensures
 
-pub returns-in_err-entries : goal.returns-in_err-entries
-unfolding Ending
-returns-in_err-entries c =
+pub returns-in_err-entries-clause-answer : goal.returns-in_err-entries-clause-answer
+returns-in_err-entries-clause-answer c =
     let p = err_from_is_err_and c.from_residual-in_err-entries.result c.from_residual-in_err-entries.ensures.1 in
-    record { answer = rw (p.1, p.2) (c.in_err-entries.ensures.answer ∙ sym (used c.loop-named.invariant c.loop-named-test.false)); edge = rw p.1 tt }
+    rw (p.1, p.2) (c.in_err-entries.ensures.answer ∙ sym (used c.loop-named.invariant c.loop-named-test.false))
 
 pub returns : goal.returns
 unfolding Ending EndsAt
