@@ -5,13 +5,13 @@ use mathlib.Core.Bool.{true, false}
 use mathlib.Core.Path.{◌≡◌, refl, sym, ap, ◌∙◌, subst}
 use native.Mathlib.Omega.{arith}
 use native.Mathlib.Nat.{sub-zero}
-use lib.ListN.{get_or, set, length, length-append, drop, replicate}
+use lib.ListN.{get_or, length, length-append, drop}
 use lib.Dec.{eqb}
 use Rattle.model.specs.Words.{Shape, pick, height, count, start}
 use Rattle.model.specs.Tree.{Open, node_at, level}
 use Rattle.model.specs.Reading.{Visit, Enter, Leave, passes, visits}
 use Rattle.model.specs.Prune.{Scan, stopped, on, scan_leaf, spoilt, scan, ran_out}
-use Rattle.model.specs.Paths.{no_position, last_of, entered, rooted, popped, turned_path, entered_path}
+use Rattle.model.specs.Paths.{no_position, last_of, entered, turned_path, entered_path}
 use Rattle.model.specs.declared.path.Position.{Position}
 use Rattle.model.specs.declared.path.Path.{Path}
 use Rattle.node_test.specs.Test.{limit_of}
@@ -35,7 +35,6 @@ use Rattle.prune_boundary.specs.Behind.{Passed, BehindPath}
 use Rattle.prune_leaf.specs.Progress.{Last}
 use Rattle.prune_boundary.specs.Edge.{went_of, trims_on, Ended}
 use Rattle.prune_leaf.specs.Progress.{stopped_by}
-use Rattle.model.specs.declared.id.RowID.{RowID}
 use Rattle.model.specs.declared.answer.UnsoundNode.{UnsoundNode}
 use Rattle.std.specs.Prelude.{Some, None, Ok, Err}
 use Rattle.tree_turn.proofs.Tests.{no_more}

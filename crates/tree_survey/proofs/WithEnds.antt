@@ -1,21 +1,18 @@
 -- Both readings in one walk: the one with ends goes along with the one without, until a wrong end is seen.
-use Prim.Native.Nat.{ℕ, ◌<◌, ◌≤◌}
+use Prim.Native.Nat.{ℕ, ◌<◌}
 use mathlib.Core.List.{List, [], ◌∷◌}
 use mathlib.Core.Bool.{Bool, true, false}
 use mathlib.Core.Path.{◌≡◌, refl, sym, ap, ◌∙◌}
 use native.Mathlib.Omega.{arith}
 use lib.Dec.{leb}
 use borrow.Author.Tests.{not-false, le-ltb}
-use lib.ListN.{set, replicate}
 use Rattle.model.specs.Words.{Shape, height, start, end, max_height}
 use Rattle.model.specs.Tree.{Open, node_at, empty_root}
 use Rattle.model.specs.Tree as Tree
 use Rattle.model.specs.Reading.{Visit, end_fits, passes, root_visits}
-use Rattle.model.specs.Paths.{entered, rooted, popped, entered_path}
-use Rattle.model.specs.declared.path.Path.{Path}
+use Rattle.model.specs.Paths.{entered, rooted, entered_path}
 use Rattle.model.proofs.Tests.{by_test}
 use Rattle.node_test.specs.Test.{limit_of}
-use Rattle.model.specs.declared.id.RowID.{RowID}
 use Rattle.model.specs.declared.id.NodeNo.{NodeNo}
 use Rattle.model.specs.declared.answer.UnsoundNode.{UnsoundNode}
 use Rattle.std.specs.Prelude.{Option, Some, None, Result, Ok, Err}

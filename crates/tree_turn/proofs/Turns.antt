@@ -6,7 +6,7 @@ use mathlib.Core.Path.{◌≡◌, refl, sym, ap, ◌∙◌, subst}
 use mathlib.Core.Logic.{⊎_elim}
 use native.Mathlib.Omega.{arith}
 use native.Mathlib.Nat.{eq-or-lt_of_le}
-use lib.ListN.{get_or, set, length, length-set, replicate}
+use lib.ListN.{get_or, length, length-set}
 use lib.Seq.{get_or-set_same, get_or-set_other}
 use lib.Dec.{T, ltb}
 use borrow.Author.Tests.{ltb-true, ltb-false, not-true, not-false}
@@ -20,9 +20,8 @@ use Rattle.model.specs.declared.path.Path.{Path}
 use Rattle.model.proofs.Tests.{by_test}
 use Rattle.law_formed.specs.Visits.{clean}
 use Rattle.node_test.specs.Test.{limit_of}
-use Rattle.model.specs.declared.id.RowID.{RowID}
 use Rattle.tree_turn.specs.Left.{bound, left, Valid, ValidPath, Moves}
-use Rattle.std.specs.Prelude.{Option, Some, None}
+use Rattle.std.specs.Prelude.{Some, None}
 use Rattle.tree_turn.specs.Turn.{has_child, out_of, Placed, up, down, bad, stepping}
 use Rattle.tree_turn.specs.Walk.{Beside, Walking, rooted_walk, turn_at, left_walk, entered_walk}
 use Rattle.tree_turn.specs.declared.turn.Entered.{Entered}

@@ -1,6 +1,6 @@
 use native.Mathlib.Omega.{arith}
 use borrow.Author.Tests.{eqb-false}
-use Rattle.std.proofs.Common.{◌<◌, sym, ◌∙◌}
+use Rattle.std.proofs.Common.{sym, ◌∙◌}
 use Rattle.node_read.specs.Layout.{shape_of}
 use Rattle.tree_turn.proofs.Turns.{narrow}
 use Rattle.tree_survey.proofs.WithEnds.{start-both, both-up, both-down}
