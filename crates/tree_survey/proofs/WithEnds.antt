@@ -5,7 +5,7 @@ use mathlib.Core.Bool.{Bool, true, false}
 use mathlib.Core.Path.{◌≡◌, refl, sym, ap, ◌∙◌}
 use native.Mathlib.Omega.{arith}
 use lib.Dec.{leb}
-use borrow.Author.Tests.{not-false, le-ltb}
+use borrow.Author.Tests.{le-ltb}
 use Rattle.model.specs.Words.{Shape, height, start, end, max_height}
 use Rattle.model.specs.Tree.{Open, node_at, empty_root}
 use Rattle.model.specs.Tree as Tree
@@ -105,7 +105,7 @@ from-both C P w n k e h i s =
     (λ f. rw (end-right C w n Open None f) (from-good true C P w n k e h i (both_ways true f)))
     (λ f. rw (end-wrong C w n Open None f) (from-bad true C P w n k e h i (both_ways false f)))
 
-pub ruleset below_turns = (start-both, both-done, both-up, both-bad, both-down, falls, turn_up, narrow, turn-down, not-false)
+pub ruleset below_turns = (both-done, both-bad, falls, turn_up, narrow, turn-down)
 
 -- number P is no wrong end
 pub no_wrong : (P : ℕ) → wrong_of P P ≡ None
