@@ -17,7 +17,7 @@ use node_read::layout::Layout;
 use prune_leaf;
 use prune_leaf::Progress;
 use tree_tally;
-use tree_turn::turn;
+use tree_turn::walk::TreeWalk;
 
 // An accepted list: how many entries it names, the path to the leaf of the last of them, how many entries of that leaf are named,
 // and how many nodes the scan left. On the path each position but the last stands at the entry after the one that leads down.
@@ -29,8 +29,9 @@ pub struct Prefix {
     pub left: u64,
 }
 
-// The leaves below a node that was entered, against the ids from a place on; what is named before is in that node. The path is
-// stored to in place.
+// The leaves below a node that was entered, against the ids from a place on; what is named before is in that node. The walk is
+// changed in place.
+#[tactic(auto, unfolding(crate::specs::Named::Ending), using(crate::proofs::Scanning::scan_turns))]
 fn scan_below(
     l: Layout,
     s: &[u64],
@@ -47,37 +48,27 @@ fn scan_below(
     ensures answer { prefix_of end.0 result ≡ below_scan l s.now end node ids.now from.place from.reached }
     ensures edge { Ending (shape_of l) l.pool s.now end.0 node.0 result }
 {
-    let mut path = Path::rooted(node);
-    let mut nexts = [None; 32];
-    let mut firsts = [first; 32];
+    let mut walk = TreeWalk::rooted(node, first);
     let mut named = from;
     let mut used = from.place as u64;
     let mut left = 0;
     while named.place < ids.len() {
-        let depth = path.depth;
-        if depth == 0 {
+        if walk.is_over() {
             return Err(Refusal::ListTooLong(named.place as u64));
         }
-        let at = depth - 1;
-        let top = path.last();
-        if turn::is_done(l, s, top) {
-            path.leave();
-            left = tree_tally::add(left, 1);
-            continue;
+        match walk.turn(l, s)? {
+            None => left = tree_tally::add(left, 1),
+            Some(down) => {
+                let more = prune_leaf::scan_node(l, s, down.child, end, ids, named)?;
+                used = (more.place - named.place) as u64;
+                named = more;
+            }
         }
-        let turned = turn::tested(l, s, top, firsts[at], nexts[at])?;
-        let child = turned.child;
-        path.enter(child);
-        nexts[depth] = turned.next;
-        firsts[depth] = turned.first;
-        let more = prune_leaf::scan_node(l, s, child, end, ids, named)?;
-        used = (more.place - named.place) as u64;
-        named = more;
     }
     let entries = prune_leaf::finish(end, named)?;
     Ok(Prefix {
         entries,
-        path,
+        path: walk.path,
         used,
         left,
     })

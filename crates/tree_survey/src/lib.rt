@@ -16,14 +16,13 @@ ghost use Rattle.tree_survey.specs.Ends.{wrong_end, with_ends, wrong_of};
 
 use model::answer::UnsoundNode;
 use model::id::{NodeNo, RowID};
-use model::path::Path;
 use node_read::layout::Layout;
 use node_root;
 use node_test;
 use tree_limit;
 use tree_tally;
 use tree_tally::Counts;
-use tree_turn::turn;
+use tree_turn::walk::TreeWalk;
 
 // The reading without ends and the one with ends, made in one walk.
 #[derive(Clone, Copy)]
@@ -65,8 +64,8 @@ fn both(l: Layout, nodes: Result<Counts, UnsoundNode>, wrong: NodeNo) -> Surveys
     }
 }
 
-// What is left below a node that was entered, with the counts and the first wrong end so far. The path is stored to in
-// place: a copy of it for each node would cost more than the node's test.
+// What is left below a node that was entered, with the counts and the first wrong end so far. The walk is changed in
+// place: a copy of its path for each node would cost more than the node's test.
 #[tactic(auto, using(crate::proofs::WithEnds::below_turns))]
 fn survey_below(
     l: Layout,
@@ -82,25 +81,14 @@ fn survey_below(
     ensures nodes { result.nodes ≡ tally (shape_of l) s.now (below false (shape_of l) l.pool s.now node.0) start }
     ensures ends { result.ends ≡ with_ends (wrong_of l.pool seen.0) (tally (shape_of l) s.now (below true (shape_of l) l.pool s.now node.0) start) }
 {
-    let mut path = Path::rooted(node);
-    let mut nexts = [None; 32];
-    let mut firsts = [first; 32];
+    let mut walk = TreeWalk::rooted(node, first);
     let mut counts = start;
     let mut wrong = seen;
-    while 0 < path.depth {
-        let depth = path.depth;
-        let at = depth - 1;
-        let top = path.last();
-        if turn::is_done(l, s, top) {
-            path.leave();
-            continue;
-        }
-        match turn::tested(l, s, top, firsts[at], nexts[at]) {
+    while !walk.is_over() {
+        match walk.turn(l, s) {
             Err(u) => return both(l, Err(u), wrong),
-            Ok(down) => {
-                path.enter(down.child);
-                nexts[depth] = down.next;
-                firsts[depth] = down.first;
+            Ok(None) => {}
+            Ok(Some(down)) => {
                 counts = tree_tally::count_node(l, s, down.child, counts);
                 wrong = look_at_end(l, s, down.child, down.next, wrong);
             }

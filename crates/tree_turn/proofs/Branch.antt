@@ -16,7 +16,7 @@ use Rattle.model.specs.declared.path.Path.{Path}
 use Rattle.model.proofs.Tests.{by_test}
 use Rattle.model.proofs.Frame.{Same}
 use Rattle.tree_turn.specs.Left.{ValidPath, Moves}
-use Rattle.std.specs.Prelude.{Option, Some, None}
+use Rattle.std.specs.Prelude.{Some, None}
 use Rattle.tree_turn.specs.Turn.{has_child, out_of, up, down, bad, entering, turning, stepping}
 use Rattle.tree_turn.proofs.Moves.{leaf_move, end_move}
 use Rattle.tree_turn.proofs.Tests.{branch, no_more}

@@ -1,4 +1,4 @@
--- A path that is stored to in place with what stands beside its positions, and what a turn keeps of it.
+-- What a turn of a walk keeps.
 use Prim.Native.Nat.{ℕ, suc, ◌-◌, ◌<◌, ◌≤◌, zero-le}
 use mathlib.Core.List.{List, [], ◌∷◌}
 use mathlib.Core.Bool.{Bool, true, false, not, ◌&&◌, and-true}
@@ -6,10 +6,10 @@ use mathlib.Core.Path.{◌≡◌, refl, sym, ap, ◌∙◌, subst}
 use mathlib.Core.Logic.{⊎_elim}
 use native.Mathlib.Omega.{arith}
 use native.Mathlib.Nat.{eq-or-lt_of_le}
-use lib.ListN.{get_or, set, length, length-set, replicate}
+use lib.ListN.{get_or, length, length-set}
 use lib.Seq.{get_or-set_same, get_or-set_other}
 use lib.Dec.{T, ltb}
-use borrow.Author.Tests.{ltb-true, ltb-false, not-true}
+use borrow.Author.Tests.{ltb-true, ltb-false, not-true, not-false}
 use Rattle.model.specs.Words.{Shape, pick, height, count, end, row, child}
 use Rattle.model.specs.Tree.{Node, node_at, sound}
 use Rattle.model.specs.Tree as Tree
@@ -20,10 +20,12 @@ use Rattle.model.specs.declared.path.Path.{Path}
 use Rattle.model.proofs.Tests.{by_test}
 use Rattle.law_formed.specs.Visits.{clean}
 use Rattle.node_test.specs.Test.{limit_of}
-use Rattle.model.specs.declared.id.RowID.{RowID}
 use Rattle.tree_turn.specs.Left.{bound, left, Valid, ValidPath, Moves}
-use Rattle.std.specs.Prelude.{Option, Some, None}
-use Rattle.tree_turn.specs.Turn.{has_child, out_of, Placed, Turning, up, down, bad, turning, stepping}
+use Rattle.std.specs.Prelude.{Some, None}
+use Rattle.tree_turn.specs.Turn.{has_child, out_of, Placed, up, down, bad, stepping}
+use Rattle.tree_turn.specs.Walk.{Beside, Walking, rooted_walk, turn_at, left_walk, entered_walk}
+use Rattle.tree_turn.specs.declared.turn.Entered.{Entered}
+use Rattle.tree_turn.specs.declared.walk.TreeWalk.{TreeWalk}
 use Rattle.tree_turn.proofs.Valid.{Top, valid-top, valid-path}
 use Rattle.tree_turn.proofs.Rest.{bound-turned, passes-fits}
 use Rattle.tree_turn.proofs.Moves.{far_move, bad_move, enter_move}
@@ -42,39 +44,23 @@ by_ends ends C h t r b x e = rw (sym (and-true (sound C h t r b)) ∙ e)
 
 -- The tested turn ----------------------------------------------------------------------------------------
 
-module _ (C : Shape) (P : ℕ) (w : List ℕ) where
-  -- what stands beside position d
-  pub record Beside (l : List Position) (nexts : List (Option RowID)) (firsts : List ℕ) (d : ℕ) : Type 0 where
-    pub next-is : limit_of (get_or nexts d None) ≡ bound C w (stack l d)
-    pub first-is : get_or firsts d 0 ≡ out_of C P w (height C w (get_or l d no_position).node.0) (get_or l d no_position).node.0
-    pub ahead : (get_or l d no_position).index ≤ get_or firsts d 0
+-- at a node just entered
+pub start-walking : (C : Shape) (P : ℕ) (w : List ℕ) (root first : ℕ) → Valid C P w (height C w root) (entered root ∷ []) → first ≡ out_of C P w (height C w root) root → Walking C P w (rooted_walk root first)
+unfolding stack bound
+start-walking C P w root first v e =
+    record {
+      valid = valid-path C P w (rooted root) (height C w root) (entered root ∷ []) refl v;
+      deep = omega arith;
+      long = refl;
+      long-next = refl;
+      long-first = refl;
+      beside = λ d l. let z : d ≡ 0 = omega arith in subst (λ (j : ℕ). Beside C P w (rooted_walk root first) j) (sym z) (record { next-is = refl; first-is = e; ahead = zero-le });
+    }
 
-  pub record Held (p : Path) (nexts : List (Option RowID)) (firsts : List ℕ) : Type 0 where
-    pub valid : ValidPath C P w p
-    pub deep : p.depth ≤ 32
-    pub long : length p.positions ≡ 32
-    pub long-next : length nexts ≡ 32
-    pub long-first : length firsts ≡ 32
-    pub beside : (d : ℕ) → d < p.depth → Beside p.positions nexts firsts d
+module _ {C : Shape} {P : ℕ} {w : List ℕ} {t : TreeWalk} (H : Walking C P w t) (z : 0 < t.path.depth) where
+  abbrev p : Path
+  p = t.path
 
-  -- the turn at the last position
-  abbrev pub turn_at : Path → List (Option RowID) → Turning
-  turn_at p nexts = turning C P w (last_of p).node.0 (last_of p).index (limit_of (get_or nexts (p.depth - 1) None))
-
-  -- at a node just entered
-  pub start-held : (root first : ℕ) → Valid C P w (height C w root) (entered root ∷ []) → first ≡ out_of C P w (height C w root) root → Held (rooted root) (replicate 32 None) (replicate 32 first)
-  unfolding stack bound
-  start-held root first v e =
-      record {
-        valid = valid-path C P w (rooted root) (height C w root) (entered root ∷ []) refl v;
-        deep = omega arith;
-        long = refl;
-        long-next = refl;
-        long-first = refl;
-        beside = λ d l. let z : d ≡ 0 = omega arith in subst (λ (j : ℕ). Beside (replicate 32 (entered root)) (replicate 32 None) (replicate 32 first) j) (sym z) (record { next-is = refl; first-is = e; ahead = zero-le });
-      }
-
-module _ {C : Shape} {P : ℕ} {w : List ℕ} {p : Path} {nexts : List (Option RowID)} {firsts : List ℕ} (H : Held C P w p nexts firsts) (z : 0 < p.depth) where
   abbrev n : ℕ
   n = (last_of p).node.0
 
@@ -82,28 +68,28 @@ module _ {C : Shape} {P : ℕ} {w : List ℕ} {p : Path} {nexts : List (Option R
   i = (last_of p).index
 
   abbrev b₀ : Tree.Limit
-  b₀ = limit_of (get_or nexts (p.depth - 1) None)
+  b₀ = limit_of (get_or t.nexts (p.depth - 1) None)
 
-  B : Beside C P w p.positions nexts firsts (p.depth - 1)
+  B : Beside C P w t (p.depth - 1)
   B = H.beside (p.depth - 1) (omega arith)
 
   top : Top C P w p.positions p.depth (height C w (last_of p).node.0)
   top = valid-top C P w p z H.valid
 
   -- what the turn asks for
-  pub placed : Placed C P w (last_of p) (get_or firsts (p.depth - 1) 0)
+  pub placed : Placed C P w (last_of p) (get_or t.firsts (p.depth - 1) 0)
   placed = record { inside = top.inside; narrow = top.narrow; first-is = B.first-is; ahead = B.ahead }
 
   -- a node that is done is left
-  pub done-up : not (has_child C w (last_of p).node.0 (last_of p).index) ≡ true → up ≡ turn_at C P w p nexts
+  pub done-up : not (has_child C w (last_of p).node.0 (last_of p).index) ≡ true → up ≡ turn_at C P w t
   done-up e = sym (turns_up C P w (last_of p) b₀ (not-true (has_child C w n i) e))
 
-  module _ (e : up ≡ turn_at C P w p nexts) where
+  module _ (e : up ≡ turn_at C P w t) where
     pub turn_up : (ends : Bool) → Moves ends C P w p (Leave (last_of p).node.0) (popped p)
     turn_up ends = move_out ends C P w p H.valid z (popped p) (left_it C P w n i b₀ e) refl
 
-    pub held_up : Held C P w (popped p) nexts firsts
-    held_up = record { valid = (turn_up false).valid; deep = omega (arith, H.deep); long = H.long; long-next = H.long-next; long-first = H.long-first; beside = λ d h. H.beside d (omega arith) }
+    pub held_up : Walking C P w (left_walk t)
+    held_up = record { valid = (turn_up false).valid; deep = omega (arith, H.deep); long = H.long; long-next = H.long-next; long-first = H.long-first; beside = λ d h. (let o = H.beside d (omega arith) in record { next-is = o.next-is; first-is = o.first-is; ahead = o.ahead }) }
 
   module _ (e : has_child C w (last_of p).node.0 (last_of p).index ≡ true) where
     tall : height C w n ≡ suc (height C w n - 1)
@@ -119,19 +105,19 @@ module _ {C : Shape} {P : ℕ} {w : List ℕ} {p : Path} {nexts : List (Option R
   next-is = bound-turned C w (last_of p) (above p) ∙ ap (next_row C w n i) (sym B.next-is)
 
   -- an unsound node
-  pub turn-bad : {c : ℕ} → bad c ≡ turn_at C P w p nexts → (ends : Bool) → Moves ends C P w p (Bad c) (turned_path p)
+  pub turn-bad : {c : ℕ} → bad c ≡ turn_at C P w t → (ends : Bool) → Moves ends C P w p (Bad c) (turned_path p)
   turn-bad {c} e ends =
       let k = barred C P w n i b₀ c e in
-      let t = turned-trail p z H.long H.deep in
+      let moved = turned-trail p z H.long H.deep in
       ⊎_elim
-      (λ o. subst (λ (x : ℕ). Moves ends C P w p (Bad x) (turned_path p)) o.1 (far_move ends C P w p H.valid z (turned_path p) (height C w n - 1) (tall k.has) (inside k.has) o.0 t))
+      (λ o. subst (λ (x : ℕ). Moves ends C P w p (Bad x) (turned_path p)) o.1 (far_move ends C P w p H.valid z (turned_path p) (height C w n - 1) (tall k.has) (inside k.has) o.0 moved))
       (λ o. subst (λ (x : ℕ). Moves ends C P w p (Bad x) (turned_path p)) o.1
       (bad_move ends C P w p H.valid z (turned_path p) (height C w n - 1) (tall k.has) (inside k.has) o.0
-      (ap (passes ends C (height C w n - 1) (node_at C w (child C w n i)) (row C w n i)) next-is ∙ by_ends ends C (height C w n - 1) (node_at C w (child C w n i)) (row C w n i) (next_row C w n i b₀) false o.2) t))
+      (ap (passes ends C (height C w n - 1) (node_at C w (child C w n i)) (row C w n i)) next-is ∙ by_ends ends C (height C w n - 1) (node_at C w (child C w n i)) (row C w n i) (next_row C w n i b₀) false o.2) moved))
       k.way
 
   -- a child is entered
-  module _ {c : ℕ} {next : Tree.Limit} {first : ℕ} (e : down c next first ≡ turn_at C P w p nexts) where
+  module _ {c : ℕ} {next : Tree.Limit} {first : ℕ} (e : down c next first ≡ turn_at C P w t) where
     W : Went C P w n i b₀ c next first
     W = went C P w n i b₀ c next first e
 
@@ -170,39 +156,42 @@ module _ {C : Shape} {P : ℕ} {w : List ℕ} {p : Path} {nexts : List (Option R
         subst (λ (x : ℕ). Moves true C P w p (Bad x) (turned_path p)) (sym W.number)
         (bad_move true C P w p H.valid z (turned_path p) (height C w n - 1) (tall W.has) (inside W.has) W.range (pass true false f) (turned-trail p z H.long H.deep))
 
-  module _ {c : ℕ} (b : Option RowID) {first : ℕ} (e : down c (limit_of b) first ≡ turn_at C P w p nexts) where
+  module _ (kid : Entered) (e : down kid.child.0 (limit_of kid.next) kid.first ≡ turn_at C P w t) where
+    abbrev c : ℕ
+    c = kid.child.0
+
     abbrev After : ℕ → Type 0
-    After d = Beside C P w (entered_path p c).positions (set nexts p.depth b) (set firsts p.depth first) d
+    After d = Beside C P w (entered_walk t kid) d
 
     -- beside a position that was there, and is moved on where it was the last
-    kept : (d : ℕ) → d < p.depth → (q : Position) → get_or (entered_path p c).positions d no_position ≡ q → q.node ≡ (get_or p.positions d no_position).node → q.index ≤ get_or firsts d 0 → After d
+    kept : (d : ℕ) → d < p.depth → (q : Position) → get_or (entered_path p c).positions d no_position ≡ q → q.node ≡ (get_or p.positions d no_position).node → q.index ≤ get_or t.firsts d 0 → After d
     kept d l q g s a =
         let o = H.beside d l in
         record {
-          next-is = ap limit_of (get_or-set_other nexts p.depth d b None (λ x. omega arith)) ∙ o.next-is ∙ ap (bound C w) (sym (entered-above p z H.long c d (omega arith)));
-          first-is = get_or-set_other firsts p.depth d first 0 (λ x. omega arith) ∙ o.first-is ∙ rw (g, s);
-          ahead = omega (arith, a, get_or-set_other firsts p.depth d first 0 (λ x. omega arith), ap (λ (x : Position). x.index) g);
+          next-is = ap limit_of (get_or-set_other t.nexts p.depth d kid.next None (λ x. omega arith)) ∙ o.next-is ∙ ap (bound C w) (sym (entered-above p z H.long c d (omega arith)));
+          first-is = get_or-set_other t.firsts p.depth d kid.first 0 (λ x. omega arith) ∙ o.first-is ∙ rw (g, s);
+          ahead = omega (arith, a, get_or-set_other t.firsts p.depth d kid.first 0 (λ x. omega arith), ap (λ (x : Position). x.index) g);
         }
 
     -- beside the child
     new : After p.depth
     new =
         let q = entered-last p z H.long c (room e) in
-        let f : first ≡ out_of C P w (height C w c) c = (W e).out ∙ ap (λ (x : ℕ). out_of C P w (height C w n - 1) x) (sym (W e).number) ∙ ap (λ (x : ℕ). out_of C P w x c) (sym (high e)) in
+        let f : kid.first ≡ out_of C P w (height C w c) c = (W e).out ∙ ap (λ (x : ℕ). out_of C P w (height C w n - 1) x) (sym (W e).number) ∙ ap (λ (x : ℕ). out_of C P w x c) (sym (high e)) in
         record {
-          next-is = ap limit_of (get_or-set_same nexts p.depth b None (omega (arith, room e, H.long-next))) ∙ (W e).beyond ∙ sym (ap (bound C w) (entered-under p z H.long c H.deep) ∙ next-is);
-          first-is = get_or-set_same firsts p.depth first 0 (omega (arith, room e, H.long-first)) ∙ f ∙ rw q;
+          next-is = ap limit_of (get_or-set_same t.nexts p.depth kid.next None (omega (arith, room e, H.long-next))) ∙ (W e).beyond ∙ sym (ap (bound C w) (entered-under p z H.long c H.deep) ∙ next-is);
+          first-is = get_or-set_same t.firsts p.depth kid.first 0 (omega (arith, room e, H.long-first)) ∙ f ∙ rw q;
           ahead = omega (arith, ap (λ (x : Position). x.index) q);
         }
 
-    pub held_down : Held C P w (entered_path p c) (set nexts p.depth b) (set firsts p.depth first)
+    pub held_down : Walking C P w (entered_walk t kid)
     held_down =
         record {
           valid = (turn-down e false refl).valid;
           deep = omega (arith, room e);
           long = entered-length p z H.long c;
-          long-next = length-set nexts p.depth b ∙ H.long-next;
-          long-first = length-set firsts p.depth first ∙ H.long-first;
+          long-next = length-set t.nexts p.depth kid.next ∙ H.long-next;
+          long-first = length-set t.firsts p.depth kid.first ∙ H.long-first;
           beside = λ d l. ⊎_elim (λ (x : suc d ≡ suc p.depth). let y : p.depth ≡ d = omega arith in subst After y new)
               (λ (x : suc d < suc p.depth). ⊎_elim
               (λ (y : d ≡ p.depth - 1). subst After (sym y) (kept (p.depth - 1) (omega arith) (turned (last_of p)) (entered-turned p z H.long c H.deep) refl (omega (arith, before placed (W e).has (W e).range))))
@@ -210,6 +199,8 @@ module _ {C : Shape} {P : ℕ} {w : List ℕ} {p : Path} {nexts : List (Option R
               (eq-or-lt_of_le (omega arith)))
               (eq-or-lt_of_le (omega arith));
         }
+
+pub ruleset walk_turn = (placed, done-up, held_up, room, short, held_down, not-false)
 
 -- The turn that tests nothing ----------------------------------------------------------------------------
 

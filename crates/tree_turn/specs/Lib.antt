@@ -1,3 +1,4 @@
 pub mod Left
 pub mod Turn
+pub mod Walk
 pub mod Trace

@@ -3,3 +3,4 @@
 #![tactic(auto)]
 
 pub mod turn;
+pub mod walk;

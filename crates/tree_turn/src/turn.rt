@@ -56,7 +56,7 @@ pub struct Entered {
 }
 
 // The turn at a position that is not done, with the first of its node's child numbers out of range and what is next for
-// the node. A loop asks is_done by itself: half of its turns are done, and need no call.
+// the node.
 #[inline(always)]
 pub fn tested(
     l: Layout,

@@ -1,10 +1,9 @@
-use mathlib.Core.Bool.{false}
-use mathlib.Core.Path.{refl, sym, ◌∙◌}
+use mathlib.Core.Path.{sym, ◌∙◌}
 use native.Mathlib.Omega.{arith}
-use borrow.Author.Tests.{not-false}
+use borrow.Author.Tests.{eqb-true, eqb-false}
 use Rattle.std.proofs.lemmas.Result.{err_from_is_err_and}
 use Rattle.model.specs.Refusals.{refusal}
-use Rattle.tree_turn.proofs.Turns.{falls, placed, done-up, turn_up, room, short, narrow, turn-down}
+use Rattle.tree_turn.proofs.Turns.{narrow}
 use Rattle.prune_leaf.specs.Progress.{EndsAt}
 use Rattle.prune_list.specs.Named.{Ending}
 use Rattle.prune_list.proofs.Scanning.{start_scanning, used, used-ending, too_long, scanning_up, scanning_bad, scanning_stop, scanning_on, scanning_down}
@@ -14,68 +13,48 @@ pub loop-named-init : goal.loop-named-init
 loop-named-init c =
     let a = c.args in
     let p = c.requires in
-    rw c.rooted-path.ensures (start_scanning _ _ _ a.end.0 a.ids.now a.node.0 a.first a.from.place a.from.reached.0 a.from.place p.valid p.first_value p.begun.0 p.begun.1)
+    rw c.rooted-walk.ensures (start_scanning _ _ _ a.end.0 a.ids.now a.node.0 a.first a.from.place a.from.reached.0 a.from.place p.valid p.first_value p.begun.0 p.begun.1)
 
-pub returns-then-depth-eq0 : goal.returns-then-depth-eq0
-unfolding Ending
-returns-then-depth-eq0 c = record { answer = too_long c.loop-named.invariant c.loop-named-test.true c.if-depth-eq0.true; edge = tt }
+pub returns-then-is_over-clause-answer : goal.returns-then-is_over-clause-answer
+returns-then-is_over-clause-answer c = too_long c.loop-named.invariant c.loop-named-test.true (eqb-true _ _ (sym c.is_over.ensures ∙ c.if-is_over.true))
 
-pub is_done-requires : goal.is_done-requires
-is_done-requires c = record { fits = c.requires.fits; node_lt_pool = rw c.last-top.ensures (placed c.loop-named.invariant.held (omega arith)).inside }
-
-pub loop-named-smaller-then-is_done : goal.loop-named-smaller-then-is_done
-loop-named-smaller-then-is_done c = rw c.leave.ensures (falls (turn_up c.loop-named.invariant.held (omega arith) (done-up c.loop-named.invariant.held (omega arith) (sym (rw c.last-top.ensures at c.is_done.ensures) ∙ c.if-is_done.true)) false))
-
-pub loop-named-preserved-then-is_done : goal.loop-named-preserved-then-is_done
-loop-named-preserved-then-is_done c = rw (c.leave.ensures, c.add-left.ensures) (scanning_up c.loop-named.invariant c.loop-named-test.true (omega arith) (done-up c.loop-named.invariant.held (omega arith) (sym (rw c.last-top.ensures at c.is_done.ensures) ∙ c.if-is_done.true)))
-
-pub tested-requires : goal.tested-requires
-tested-requires c = record { fits = c.requires.fits; placed = rw c.last-top.ensures (placed c.loop-named.invariant.held (omega arith), not-false _ (sym (rw c.last-top.ensures at c.is_done.ensures) ∙ c.if-is_done.false)) }
-
-pub returns-in_err-turned : goal.returns-in_err-turned
-unfolding Ending
-returns-in_err-turned c =
+pub returns-in_err-turn-clause-answer : goal.returns-in_err-turn-clause-answer
+returns-in_err-turn-clause-answer c =
+    let z = eqb-false _ _ (sym c.is_over.ensures ∙ c.if-is_over.false) in
     let p = err_from_is_err_and c.from_residual.result c.from_residual.ensures.1 in
-    record { answer = rw (p.1, p.2) (scanning_bad c.loop-named.invariant c.loop-named-test.true (omega arith) (rw c.last-top.ensures at c.in_err-turned.ensures)); edge = rw p.1 tt }
+    rw (p.1, p.2) (scanning_bad c.loop-named.invariant c.loop-named-test.true (omega arith) c.in_err-turn.ensures)
 
-pub last-top-requires : goal.last-top-requires
-last-top-requires c = let h = c.loop-named.invariant.held in (omega arith, h.deep)
+pub loop-named-preserved-in-None : goal.loop-named-preserved-in-None
+loop-named-preserved-in-None c =
+    let z = eqb-false _ _ (sym c.is_over.ensures ∙ c.if-is_over.false) in
+    rw c.add-left.ensures (scanning_up c.loop-named.invariant c.loop-named-test.true (omega arith) (rw c.in-None.is at c.in_ok-turn.ensures))
 
-pub enter-requires : goal.enter-requires
-enter-requires c =
-    let h = c.loop-named.invariant.held in
-    let e = rw c.last-top.ensures at c.in_ok-turned.ensures in
-    record { depth = (omega arith, omega (arith, room h (omega arith) e)); index = omega (arith, short h (omega arith) e, c.requires.fits.cap-high) }
+pub scan_node-requires-clause-n_lt_pool : goal.scan_node-requires-clause-n_lt_pool
+scan_node-requires-clause-n_lt_pool c =
+    let z = eqb-false _ _ (sym c.is_over.ensures ∙ c.if-is_over.false) in
+    let q = rw c.in-Some.is at c.in_ok-turn.ensures in
+    narrow c.loop-named.invariant.walking (omega arith) q.tells
 
-pub bounds-nexts-depth : goal.bounds-nexts-depth
-bounds-nexts-depth c = omega (arith, room c.loop-named.invariant.held (omega arith) (rw c.last-top.ensures at c.in_ok-turned.ensures))
-
-pub bounds-firsts-depth : goal.bounds-firsts-depth
-bounds-firsts-depth c = omega (arith, room c.loop-named.invariant.held (omega arith) (rw c.last-top.ensures at c.in_ok-turned.ensures))
-
-pub scan_node-requires : goal.scan_node-requires
-scan_node-requires c = record { fits = c.requires.fits; n_lt_pool = narrow c.loop-named.invariant.held (omega arith) (rw c.last-top.ensures at c.in_ok-turned.ensures) }
-
-pub returns-in_err-more : goal.returns-in_err-more
-unfolding Ending
-returns-in_err-more c =
-    let p = err_from_is_err_and c.from_residual-in_err-more.result c.from_residual-in_err-more.ensures.1 in
-    record { answer = rw (p.1, p.2) (scanning_stop c.loop-named.invariant c.loop-named-test.true (omega arith) c.in_ok-turned.turned.next (rw c.last-top.ensures at c.in_ok-turned.ensures) (refusal c.in_err-more.field-0.0) c.in_err-more.ensures); edge = rw p.1 tt }
+pub returns-in_err-more-in-Some-clause-answer : goal.returns-in_err-more-in-Some-clause-answer
+returns-in_err-more-in-Some-clause-answer c =
+    let z = eqb-false _ _ (sym c.is_over.ensures ∙ c.if-is_over.false) in
+    let p = err_from_is_err_and c.from_residual-in_err-more-in-Some.result c.from_residual-in_err-more-in-Some.ensures.1 in
+    rw (p.1, p.2) (scanning_stop c.loop-named.invariant c.loop-named-test.true (omega arith) _ (rw c.in-Some.is at c.in_ok-turn.ensures) (refusal c.in_err-more-in-Some.field-0.0) c.in_err-more-in-Some.ensures)
 
 pub overflow_sub-used : goal.overflow_sub-used
-overflow_sub-used c = scanning_on c.loop-named.invariant c.loop-named-test.true (omega arith) c.in_ok-turned.turned.next (rw c.last-top.ensures at c.in_ok-turned.ensures) _ _ c.in_ok-more.ensures
-
-pub loop-named-smaller : goal.loop-named-smaller
-loop-named-smaller c = rw c.enter.ensures (falls (turn-down c.loop-named.invariant.held (omega arith) (rw c.last-top.ensures at c.in_ok-turned.ensures) false refl))
+overflow_sub-used c =
+    let z = eqb-false _ _ (sym c.is_over.ensures ∙ c.if-is_over.false) in
+    scanning_on c.loop-named.invariant c.loop-named-test.true (omega arith) _ (rw c.in-Some.is at c.in_ok-turn.ensures) _ _ c.in_ok-more-in-Some.ensures
 
 pub loop-named-preserved : goal.loop-named-preserved
-loop-named-preserved c = rw c.enter.ensures (scanning_down c.loop-named.invariant c.loop-named-test.true (omega arith) c.in_ok-turned.turned.next (rw c.last-top.ensures at c.in_ok-turned.ensures) _ _ c.in_ok-more.ensures)
+loop-named-preserved c =
+    let z = eqb-false _ _ (sym c.is_over.ensures ∙ c.if-is_over.false) in
+    scanning_down c.loop-named.invariant c.loop-named-test.true (omega arith) _ (rw c.in-Some.is at c.in_ok-turn.ensures) _ _ c.in_ok-more-in-Some.ensures
 
-pub returns-in_err-entries : goal.returns-in_err-entries
-unfolding Ending
-returns-in_err-entries c =
+pub returns-in_err-entries-clause-answer : goal.returns-in_err-entries-clause-answer
+returns-in_err-entries-clause-answer c =
     let p = err_from_is_err_and c.from_residual-in_err-entries.result c.from_residual-in_err-entries.ensures.1 in
-    record { answer = rw (p.1, p.2) (c.in_err-entries.ensures.answer ∙ sym (used c.loop-named.invariant c.loop-named-test.false)); edge = rw p.1 tt }
+    rw (p.1, p.2) (c.in_err-entries.ensures.answer ∙ sym (used c.loop-named.invariant c.loop-named-test.false))
 
 pub returns : goal.returns
 unfolding Ending EndsAt
