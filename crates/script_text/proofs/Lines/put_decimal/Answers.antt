@@ -1,7 +1,7 @@
 use mathlib.Core.Path.{◌∙◌}
 use native.Mathlib.Omega.{arith}
 use Rattle.script_text.proofs.Decimal.{spells}
-use Rattle.script_text.proofs.put_decimal.Goals as goal
+use Rattle.script_text.proofs.Lines.put_decimal.Goals as goal
 
 pub returns : goal.returns
 returns c =
