@@ -3,12 +3,13 @@
 #![tactic(auto)]
 
 ghost use Rattle.std.specs.Prelude.{◌≡◌, true, ◌++◌, ◌+◌, ◌≤◌, drop, length, take};
-ghost use Rattle.script_text.specs.Lines.{Puts, capped};
+ghost use Rattle.script_text.specs.Lines.{Put, capped};
 ghost use Rattle.script_records.specs.Records.{body_length, whole};
-ghost use Rattle.script_calls.specs.Steps.{memory};
+ghost use Rattle.script_calls.specs.Steps.{memory_of};
 ghost use Rattle.script_step.specs.Script.{listing, listing_from};
 
-use script_step;
+use script_calls::Memory;
+use script_text::Lines;
 
 // The bytes of a whole record.
 fn record_length(bytes: &[u8]) -> usize
@@ -18,25 +19,19 @@ fn record_length(bytes: &[u8]) -> usize
     4 + script_records::read_u32(bytes, 0) as usize
 }
 
-// A whole script, on these words.
-fn run_on(s: &mut [u64], script: &[u8], out: &mut [u8]) -> usize
-    requires { 5 ≤ length s.old }
-    ensures { Puts out.old 0 (listing_from (length script.now) (memory s.old (length s.old)) script.now) out.new result }
+// A whole script, in this memory.
+fn run_on(m: &mut Memory<'_>, script: &[u8], out: &mut Lines<'_>)
+    requires { 5 ≤ length m.old.words.now }
+    ensures { Put out.old (listing_from (length script.now) (memory_of m.old) script.now) out.new }
 {
-    let mut used = s.len();
-    let mut at: usize = 0;
-    let mut pos: usize = 0;
-    while pos < script.len() {
-        let rest = &script[pos..];
-        let t = script_step::step(s, used, rest, out, at);
-        at = t.at;
-        if !t.goes {
-            return at;
+    let mut rest = script;
+    while !rest.is_empty() {
+        if script_step::step(m, rest, out).is_err() {
+            return;
         }
-        used = t.used;
-        pos += record_length(rest);
+        rest = &rest[record_length(rest)..];
     }
-    script_step::free_step(&s[..], out, at)
+    script_step::free_step(m, out);
 }
 
 // The listing of a script: the bytes that fit are written, the rest stays, and the whole length is returned.
@@ -45,5 +40,11 @@ pub fn row_page_script(script: &[u8], out: &mut [u8]) -> usize
     ensures length { result ≡ capped (length (listing script.now)) }
 {
     let mut words = [0u64; 4096];
-    run_on(&mut words, script, out)
+    let mut m = Memory {
+        words: &mut words,
+        used: 4096,
+    };
+    let mut lines = Lines { bytes: out, at: 0 };
+    run_on(&mut m, script, &mut lines);
+    lines.at
 }

@@ -2,81 +2,52 @@
 
 #![tactic(auto)]
 
-ghost use Rattle.std.specs.Prelude.{◌≡◌, false, [], ◌≤◌, length};
-ghost use Rattle.script_text.specs.Lines.{Puts, line};
+ghost use Rattle.std.specs.Prelude.{◌≡◌, false, [], ◌≤◌, length, is_ok};
+ghost use Rattle.script_text.specs.Lines.{Put, line};
 ghost use Rattle.answer_line.specs.Names.{bad_record_name};
 ghost use Rattle.script_records.specs.Records as R;
 ghost use Rattle.script_calls.specs.Calls.{perform};
-ghost use Rattle.script_calls.specs.Steps.{Does, memory};
+ghost use Rattle.script_calls.specs.Steps.{Does, memory_of};
 
-use answer_numbers::Numbers;
 use model::id::{PageID, RowID};
+use script_text::Lines;
 
-// After a record: the words in use, the place after its lines, and whether the script goes on.
-#[derive(Clone, Copy)]
-pub struct Progress {
+// All words, and how many of them a call other than create gets.
+pub struct Memory<'a> {
+    pub words: &'a mut [u64],
     pub used: usize,
-    pub at: usize,
-    pub goes: bool,
+    ghost in_words: { used ≤ length words.now },
 }
 
-pub fn append_step(
-    s: &mut [u64],
-    used: usize,
-    count: u64,
-    page: u64,
-    out: &mut [u8],
-    at: usize,
-) -> Progress
-    requires { used ≤ length s.old }
-    ensures { Does (perform (memory s.old used) (R.Append count page)) out.old at s.new out.new result }
+// What was read is no record.
+pub struct BadRecord;
+
+pub fn append_step(m: &mut Memory<'_>, count: u64, page: u64, out: &mut Lines<'_>)
+    ensures { Does (perform (memory_of m.old) (R.Append count page)) m.old out.old m.new out.new }
 {
-    let a = call_append::insert_row_page(&mut s[..used], count, PageID(page));
-    let n = Numbers::from(a);
-    let place = answer_line::put_answer(out, at, b"append", b"append", n);
-    Progress {
-        used,
-        at: place,
-        goes: true,
-    }
+    let a = call_append::insert_row_page(&mut m.words[..m.used], count, PageID(page));
+    answer_line::put_answer(out, b"append", b"append", a);
 }
 
-pub fn find_step(s: &[u64], used: usize, row: u64, out: &mut [u8], at: usize) -> Progress
-    requires { used ≤ length s.now }
-    ensures { Does (perform (memory s.now used) (R.Find row)) out.old at s.now out.new result }
+pub fn find_step(m: &Memory<'_>, row: u64, out: &mut Lines<'_>)
+    ensures { Does (perform (memory_of m.now) (R.Find row)) m.now out.old m.now out.new }
 {
-    let a = call_find::try_find_row(&s[..used], RowID(row));
-    let n = Numbers::from(a);
-    let place = answer_line::put_answer(out, at, b"page", b"none", n);
-    Progress {
-        used,
-        at: place,
-        goes: true,
-    }
+    let a = call_find::try_find_row(&m.words[..m.used], RowID(row));
+    answer_line::put_answer(out, b"page", b"none", a);
 }
 
-pub fn release_step(s: &mut [u64], used: usize, pivot: u64, out: &mut [u8], at: usize) -> Progress
-    requires { used ≤ length s.old }
-    ensures { Does (perform (memory s.old used) (R.Release pivot)) out.old at s.new out.new result }
+pub fn release_step(m: &mut Memory<'_>, pivot: u64, out: &mut Lines<'_>)
+    ensures { Does (perform (memory_of m.old) (R.Release pivot)) m.old out.old m.new out.new }
 {
     let mut pages = [0u64; 2048];
-    let a = call_release::destroy(&mut s[..used], RowID(pivot), &mut pages);
-    let n = Numbers::from(a);
-    let place = answer_line::put_answer(out, at, b"release", b"release", n);
-    Progress {
-        used,
-        at: place,
-        goes: true,
-    }
+    let a = call_release::destroy(&mut m.words[..m.used], RowID(pivot), &mut pages);
+    answer_line::put_answer(out, b"release", b"release", a);
 }
 
-pub fn bad_step(used: usize, out: &mut [u8], at: usize) -> Progress
-    ensures { (result.used ≡ used) × (result.goes ≡ false) × Puts out.old at (line bad_record_name []) out.new result.at }
+pub fn bad_step(out: &mut Lines<'_>) -> Result<(), BadRecord>
+    ensures puts { Put out.old (line bad_record_name []) out.new }
+    ensures ends { is_ok result ≡ false }
 {
-    let place = script_text::put_line(out, at, b"bad record");
-    Progress {
-        used,
-        at: place,
-        goes: false,
-    }
+    out.put_line(b"bad record", &[]);
+    Err(BadRecord)
 }

@@ -2,67 +2,56 @@
 
 #![tactic(auto)]
 
-ghost use Rattle.std.specs.Prelude.{[], ◌∷◌, ◌+◌, ◌≤◌, length};
+ghost use Rattle.std.specs.Prelude.{◌≡◌, [], ◌∷◌, ◌≤◌, Some, length, is_ok};
 ghost use Rattle.model.specs.Words.{free_count};
-ghost use Rattle.script_text.specs.Lines.{Puts, line};
+ghost use Rattle.script_text.specs.Lines.{Put, line};
 ghost use Rattle.answer_line.specs.Names.{free_name};
 ghost use Rattle.script_records.specs.Records.{first};
 ghost use Rattle.script_records.specs.Read.{meant};
 ghost use Rattle.script_calls.specs.Calls.{perform};
-ghost use Rattle.script_calls.specs.Steps.{Does, memory};
+ghost use Rattle.script_calls.specs.Steps.{Does, memory_of};
 
-use script_calls::Progress;
-use script_create;
-use script_prune;
+use script_calls::{BadRecord, Memory};
 use script_records::Record;
-use script_walk;
+use script_text::Lines;
 
-// Whatever a record asks for, with its body.
-fn perform_record(
-    s: &mut [u64],
-    used: usize,
-    asked: Option<Record>,
-    body: &[u8],
-    out: &mut [u8],
-    at: usize,
-) -> Progress
-    requires { (used ≤ length s.old) × (length body.now ≤ 4096) }
-    ensures { Does (perform (memory s.old used) (meant body.now asked)) out.old at s.new out.new result }
+// What a record asks for, with its body.
+fn perform_record(m: &mut Memory<'_>, asked: Record, body: &[u8], out: &mut Lines<'_>)
+    requires { length body.now ≤ 4096 }
+    ensures { Does (perform (memory_of m.old) (meant body.now (Some asked))) m.old out.old m.new out.new }
 {
     match asked {
-        Some(Record::Create(capacity, nodes, start)) => {
-            script_create::create_step(s, used, capacity, nodes, start, out, at)
+        Record::Create(capacity, nodes, start) => {
+            script_create::create_step(m, capacity, nodes, start, out)
         }
-        Some(Record::Append(count, page)) => {
-            script_calls::append_step(s, used, count, page, out, at)
-        }
-        Some(Record::Find(row)) => script_calls::find_step(&s[..], used, row, out, at),
-        Some(Record::Prune(start, end)) => {
-            script_prune::prune_step(s, used, start, end, body, out, at)
-        }
-        Some(Record::Walk(row)) => script_walk::walk_step(&s[..], used, row, out, at),
-        Some(Record::Release(pivot)) => script_calls::release_step(s, used, pivot, out, at),
-        None => script_calls::bad_step(used, out, at),
+        Record::Append(count, page) => script_calls::append_step(m, count, page, out),
+        Record::Find(row) => script_calls::find_step(m, row, out),
+        Record::Prune(start, end) => script_prune::prune_step(m, start, end, body, out),
+        Record::Walk(row) => script_walk::walk_step(m, row, out),
+        Record::Release(pivot) => script_calls::release_step(m, pivot, out),
     }
 }
 
-// The record that bytes begin with: what it does to the words, and its lines.
-pub fn step(s: &mut [u64], used: usize, bytes: &[u8], out: &mut [u8], at: usize) -> Progress
-    requires { used ≤ length s.old }
-    ensures { Does (perform (memory s.old used) (first bytes.now)) out.old at s.new out.new result }
+// The record that bytes begin with: what it does to the memory, and its lines.
+pub fn step(m: &mut Memory<'_>, bytes: &[u8], out: &mut Lines<'_>) -> Result<(), BadRecord>
+    ensures does { Does (perform (memory_of m.old) (first bytes.now)) m.old out.old m.new out.new }
+    ensures goes { is_ok result ≡ (perform (memory_of m.old) (first bytes.now)).goes }
 {
     let Some(len) = script_records::read_head(bytes) else {
-        return script_calls::bad_step(used, out, at);
+        return script_calls::bad_step(out);
     };
     let body = &bytes[4..4 + len];
-    let asked = script_records::read_body(body);
-    perform_record(s, used, asked, body, out, at)
+    let Some(asked) = script_records::read_body(body) else {
+        return script_calls::bad_step(out);
+    };
+    perform_record(m, asked, body, out);
+    Ok(())
 }
 
 // The last line.
-pub fn free_step(s: &[u64], out: &mut [u8], at: usize) -> usize
-    requires { 5 ≤ length s.now }
-    ensures { Puts out.old at (line free_name (free_count s.now ∷ [])) out.new result }
+pub fn free_step(m: &Memory<'_>, out: &mut Lines<'_>)
+    requires { 5 ≤ length m.now.words.now }
+    ensures { Put out.old (line free_name (free_count m.now.words.now ∷ [])) out.new }
 {
-    script_text::put_line1(out, at, b"free", s[4])
+    out.put_line(b"free", &[m.words[4]]);
 }

@@ -1,6 +1,7 @@
 -- 01, "Script program", "Lines": the bytes of a line, and a listing in lent bytes.
 use Rattle.std.specs.Prelude.{ℕ, zero, suc, ◌+◌, ◌-◌, ◌/◌, ◌%◌, ◌^◌, min, List, [], ◌∷◌, ◌++◌, ◌≡◌, length, ltb}
 use Rattle.model.specs.Words.{pick, fill}
+use Rattle.script_text.specs.declared.Lines.{Lines}
 
 -- the ASCII code of a decimal digit
 abbrev pub digit : ℕ → ℕ
@@ -39,3 +40,8 @@ capped n = min n (2 ^ 64 - 1)
 pub record Puts (before : List ℕ) (at : ℕ) (bytes after : List ℕ) (r : ℕ) : Type 0 where
   pub is : after ≡ fill before at bytes
   pub place : r ≡ capped (at + length bytes)
+
+-- what a function of src/ puts: the bytes stay the ones that were lent
+pub record Put (l : Lines) (bytes : List ℕ) (l₁ : Lines) : Type 0 where
+  pub lent : l₁.bytes.ghost_name ≡ l.bytes.ghost_name
+  pub puts : Puts l.bytes.now l.at bytes l₁.bytes.now l₁.at

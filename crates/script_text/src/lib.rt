@@ -1,81 +1,67 @@
-// Lines of text in lent bytes: what fits is written, the rest of the bytes stay, and the place after it counts what
-// did not fit too.
+// Lines of text in lent bytes.
 
 #![tactic(auto)]
 
-ghost use Rattle.std.specs.Prelude.{◌≡◌, [], ◌∷◌, ◌+◌, length};
-ghost use Rattle.model.specs.Words.{fill};
-ghost use Rattle.script_text.specs.Lines.{Puts, decimal, line, numbers, newline, space};
+ghost use Rattle.std.specs.Prelude.{[], ◌∷◌};
+ghost use Rattle.script_text.specs.Lines.{Put, decimal, line, numbers, newline, space};
 
-// One byte.
-#[tactic(auto, using(crate::proofs::Putting::one_in, crate::proofs::Putting::one_out))]
-pub fn put_byte(out: &mut [u8], at: usize, byte: u8) -> usize
-    ensures { Puts out.old at (byte ∷ []) out.new result }
-{
-    if at < out.len() {
-        out[at] = byte;
+// What fits is written, the rest of the bytes stay, and the place counts what did not fit too.
+pub struct Lines<'a> {
+    pub bytes: &'a mut [u8],
+    pub at: usize,
+}
+
+impl Lines<'_> {
+    // One byte.
+    pub fn put_byte(&mut self, byte: u8)
+        ensures { Put self.old (byte ∷ []) self.new }
+    {
+        if self.at < self.bytes.len() {
+            self.bytes[self.at] = byte;
+        }
+        self.at = self.at.saturating_add(1);
     }
-    at.saturating_add(1)
-}
 
-#[tactic(auto, using(crate::proofs::Putting::nothing))]
-pub fn put_bytes(out: &mut [u8], at: usize, bytes: &[u8]) -> usize
-    ensures { Puts out.old at bytes.now out.new result }
-{
-    let mut place = at;
-    for &byte in bytes {
-        place = put_byte(out, place, byte);
+    pub fn put_bytes(&mut self, bytes: &[u8])
+        ensures { Put self.old bytes.now self.new }
+    {
+        for &byte in bytes {
+            self.put_byte(byte);
+        }
     }
-    place
-}
 
-// The decimal digits of a number.
-pub fn put_decimal(out: &mut [u8], at: usize, n: u64) -> usize
-    ensures { Puts out.old at (decimal n) out.new result }
-{
-    let mut digits = [0u8; 20];
-    let k = io::decimal(n, &mut digits);
-    put_bytes(out, at, &digits[..k])
-}
-
-// A number after a space.
-pub fn put_number(out: &mut [u8], at: usize, n: u64) -> usize
-    ensures { Puts out.old at (space ∷ decimal n) out.new result }
-{
-    let place = put_byte(out, at, b' ');
-    put_decimal(out, place, n)
-}
-
-// Each of these numbers after a space.
-#[tactic(auto, using(crate::proofs::Putting::nothing), unfolding(crate::specs::Lines::numbers))]
-pub fn put_numbers(out: &mut [u8], at: usize, list: &[u64]) -> usize
-    ensures { Puts out.old at (numbers list.now) out.new result }
-{
-    let mut place = at;
-    for &n in list {
-        place = put_number(out, place, n);
+    // The decimal digits of a number.
+    pub fn put_decimal(&mut self, n: u64)
+        ensures { Put self.old (decimal n) self.new }
+    {
+        let mut digits = [0u8; 20];
+        let k = io::decimal(n, &mut digits);
+        self.put_bytes(&digits[..k]);
     }
-    place
-}
 
-// A line of a word and these numbers.
-pub fn put_line_with(out: &mut [u8], at: usize, word: &[u8], list: &[u64]) -> usize
-    ensures { Puts out.old at (line word.now list.now) out.new result }
-{
-    let place = put_bytes(out, at, word);
-    let place = put_numbers(out, place, list);
-    put_byte(out, place, b'\n')
-}
+    // A number after a space.
+    pub fn put_number(&mut self, n: u64)
+        ensures { Put self.old (space ∷ decimal n) self.new }
+    {
+        self.put_byte(b' ');
+        self.put_decimal(n);
+    }
 
-// A line of a word alone, and with one number.
-pub fn put_line(out: &mut [u8], at: usize, word: &[u8]) -> usize
-    ensures { Puts out.old at (line word.now []) out.new result }
-{
-    put_line_with(out, at, word, &[])
-}
+    // Each of these numbers after a space.
+    pub fn put_numbers(&mut self, list: &[u64])
+        ensures { Put self.old (numbers list.now) self.new }
+    {
+        for &n in list {
+            self.put_number(n);
+        }
+    }
 
-pub fn put_line1(out: &mut [u8], at: usize, word: &[u8], a: u64) -> usize
-    ensures { Puts out.old at (line word.now (a ∷ [])) out.new result }
-{
-    put_line_with(out, at, word, &[a])
+    // A line of a word and these numbers.
+    pub fn put_line(&mut self, word: &[u8], list: &[u64])
+        ensures { Put self.old (line word.now list.now) self.new }
+    {
+        self.put_bytes(word);
+        self.put_numbers(list);
+        self.put_byte(b'\n');
+    }
 }

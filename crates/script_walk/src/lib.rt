@@ -2,83 +2,37 @@
 
 #![tactic(auto)]
 
-ghost use Rattle.std.specs.Prelude.{◌≡◌, ◌+◌, ◌≤◌, length};
-ghost use Rattle.model.specs.Words.{lent};
-ghost use Rattle.model.specs.LeafWalk as W;
-ghost use Rattle.script_text.specs.Lines.{Puts, line};
+ghost use Rattle.std.specs.Prelude.{◌≡◌, ◌+◌, length};
+ghost use Rattle.script_text.specs.Lines.{Put};
 ghost use Rattle.script_records.specs.Records as R;
-ghost use Rattle.script_calls.specs.Calls.{lent_records, perform, walk_lines};
-ghost use Rattle.script_calls.specs.Steps.{Does, memory};
-ghost use Rattle.script_walk.specs.Walked.{WalkPuts};
+ghost use Rattle.script_calls.specs.Calls.{perform, walk_lines};
+ghost use Rattle.script_calls.specs.Steps.{Does, memory_of};
 
-use answer_numbers::Numbers;
 use model::cursor::RowPageIndexMemCursor;
 use model::id::RowID;
-use script_calls::Progress;
+use script_calls::Memory;
+use script_text::Lines;
 
-// After one step of a walk: the cursor, the place after its line, and whether another follows.
-#[derive(Clone, Copy)]
-pub struct WalkStep {
-    pub cursor: RowPageIndexMemCursor,
-    pub at: usize,
-    pub goes: bool,
-}
-
-fn walk_once(
-    s: &[u64],
-    cursor: RowPageIndexMemCursor,
-    list: &mut [u64],
-    out: &mut [u8],
-    at: usize,
-) -> WalkStep
+// The leaves from a cursor on, as long as a leaf is given.
+fn walk_on(s: &[u64], cursor: RowPageIndexMemCursor, list: &mut [u64], out: &mut Lines<'_>)
     requires { length list.old ≡ 4096 }
-    ensures { WalkPuts (W.next_leaf_of lent s.now cursor lent_records) out.old at out.new result }
-{
-    let step = next_words::next_words(s, cursor, list);
-    let answer = step.answer;
-    let next = step.cursor;
-    let n = Numbers::from(answer);
-    let place = answer_line::put_answer(out, at, b"leaf", b"end", n);
-    WalkStep {
-        cursor: next,
-        at: place,
-        goes: next_words::gives_leaf(answer),
-    }
-}
-
-// The leaves from a cursor on.
-fn walk_on(
-    s: &[u64],
-    cursor: RowPageIndexMemCursor,
-    list: &mut [u64],
-    out: &mut [u8],
-    at: usize,
-) -> usize
-    requires { length list.old ≡ 4096 }
-    ensures { Puts out.old at (walk_lines s.now (length s.now + 1) cursor) out.new result }
+    ensures { Put out.old (walk_lines s.now (length s.now + 1) cursor) out.new }
 {
     let mut c = cursor;
-    let mut place = at;
     loop {
-        let t = walk_once(s, c, list, out, place);
-        place = t.at;
-        if !t.goes {
-            return place;
+        let step = next_words::next_words(s, c, list);
+        answer_line::put_answer(out, b"leaf", b"end", step.answer);
+        if !next_words::gives_leaf(step.answer) {
+            return;
         }
-        c = t.cursor;
+        c = step.cursor;
     }
 }
 
-pub fn walk_step(s: &[u64], used: usize, row: u64, out: &mut [u8], at: usize) -> Progress
-    requires { used ≤ length s.now }
-    ensures { Does (perform (memory s.now used) (R.Walk row)) out.old at s.now out.new result }
+pub fn walk_step(m: &Memory<'_>, row: u64, out: &mut Lines<'_>)
+    ensures { Does (perform (memory_of m.now) (R.Walk row)) m.now out.old m.now out.new }
 {
     let mut list = [0u64; 4096];
     let cursor = next_step::sought(RowID(row));
-    let place = walk_on(&s[..used], cursor, &mut list, out, at);
-    Progress {
-        used,
-        at: place,
-        goes: true,
-    }
+    walk_on(&m.words[..m.used], cursor, &mut list, out);
 }

@@ -2,9 +2,10 @@
 
 #![tactic(auto)]
 
-use answer_numbers::Numbers;
+use answer_numbers::Values;
 use model::answer::{Refusal, WellFormed};
 use model::node::RowPageIndexNodeHeader;
+use script_text::Lines;
 use std::{fmt, io};
 
 // A row; the largest number is no row.
@@ -34,22 +35,27 @@ impl fmt::Display for List<'_> {
 }
 
 // The line of an answer, as in a script.
-pub fn print_answer(
+pub fn print_answer<T: Values>(
     rt: &impl Print,
     given: &[u8],
     none: &[u8],
-    answer: impl Into<Numbers>,
+    answer: Result<T, Refusal>,
 ) -> io::Result<()> {
-    let mut out = [0u8; 256];
-    let len = answer_line::put_answer(&mut out, 0, given, none, answer.into());
-    match out.get(..len) {
+    let mut bytes = [0u8; 256];
+    let mut out = Lines {
+        bytes: &mut bytes,
+        at: 0,
+    };
+    answer_line::put_answer(&mut out, given, none, answer);
+    let len = out.at;
+    match bytes.get(..len) {
         Some(line) => rt.write_all(line),
         None => Ok(()),
     }
 }
 
 pub fn print_refusal(rt: &impl Print, refusal: Refusal) -> io::Result<()> {
-    print_answer(rt, b"no", b"no", refusal)
+    print_answer(rt, b"no", b"no", Err::<(), Refusal>(refusal))
 }
 
 // The full check's line.
