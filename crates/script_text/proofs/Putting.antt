@@ -8,7 +8,8 @@ use lib.ListN.{length, get_or, set, take, length-append}
 use lib.Seq.{set_out, take-suc}
 use Rattle.model.specs.Words.{fill}
 use Rattle.model.proofs.Fill.{length-fill, fill-append}
-use Rattle.script_text.specs.Lines.{decimal, space, newline, numbers, line, capped, Puts}
+use Rattle.script_text.specs.Lines.{decimal, space, newline, numbers, line, capped, Puts, Put}
+use Rattle.script_text.specs.declared.Lines.{Lines}
 
 -- past the end nothing is written
 pub fill-out : (l : List ℕ) (i : ℕ) (xs : List ℕ) → length l ≤ i → fill l i xs ≡ l
@@ -38,19 +39,27 @@ joins {o} {o₁} {o₂} {at} {r₁} {r₂} {xs} {ys} h p q =
     }
 
 -- one byte: in place; past the end
-pub one_in : (o : List ℕ) (at b : ℕ) → at + 1 < 2 ^ 64 → Puts o at (b ∷ []) (set o at b) (at + 1)
+pub one_in : (o : List ℕ) (at r b : ℕ) → r ≡ capped (at + 1) → Puts o at (b ∷ []) (set o at b) r
 unfolding fill
-one_in o at b h = record { is = refl; place = omega arith }
+one_in o at r b e = record { is = refl; place = e }
 
 pub one_out : (o : List ℕ) (at r b : ℕ) → length o ≤ at → r ≡ capped (at + 1) → Puts o at (b ∷ []) o r
 one_out o at r b h e = record { is = sym (fill-out o at (b ∷ []) h); place = e }
 
--- a list put byte by byte
-pub one_more : {o o₁ o₂ : List ℕ} {at r₁ r₂ : ℕ} (bs : List ℕ) (i : ℕ) → length o < 2 ^ 64 → i < length bs → Puts o at (take i bs) o₁ r₁ → Puts o₁ r₁ (get_or bs i 0 ∷ []) o₂ r₂ → Puts o at (take (i + 1) bs) o₂ r₂
-one_more bs i h t p q = rw (add-one i, take-suc bs i 0 t) (joins h p q)
-
 pub same : {o o₁ : List ℕ} {at r : ℕ} {xs : List ℕ} → Puts o at xs o₁ r → length o₁ ≡ length o
 same {o} {o₁} {at} {r} {xs} p = ap length p.is ∙ length-fill o at xs
+
+-- Lines that are put -------------------------------------------------------------------------------------
+
+pub none : (l : Lines) → l.at < 2 ^ 64 → Put l [] l
+none l h = record { lent = refl; puts = nothing l.bytes.now l.at h }
+
+pub then : {l l₁ l₂ : Lines} {xs ys : List ℕ} → length l.bytes.now < 2 ^ 64 → Put l xs l₁ → Put l₁ ys l₂ → Put l (xs ++ ys) l₂
+then h p q = record { lent = q.lent ∙ p.lent; puts = joins h p.puts q.puts }
+
+-- a list put byte by byte
+pub one_more : {l l₁ l₂ : Lines} (bs : List ℕ) (i : ℕ) → length l.bytes.now < 2 ^ 64 → i < length bs → Put l (take i bs) l₁ → Put l₁ (get_or bs i 0 ∷ []) l₂ → Put l (take (i + 1) bs) l₂
+one_more bs i h t p q = rw (add-one i, take-suc bs i 0 t) (then h p q)
 
 numbers-append : (xs ys : List ℕ) → numbers (xs ++ ys) ≡ numbers xs ++ numbers ys
 unfolding numbers
@@ -62,10 +71,10 @@ unfolding numbers
 number-alone v = rw append-nil
 
 -- numbers put one by one
-pub number_more : {o o₁ o₂ : List ℕ} {at r₁ r₂ : ℕ} (vs : List ℕ) (i : ℕ) → length o < 2 ^ 64 → i < length vs → Puts o at (numbers (take i vs)) o₁ r₁ → Puts o₁ r₁ (space ∷ decimal (get_or vs i 0)) o₂ r₂ → Puts o at (numbers (take (i + 1) vs)) o₂ r₂
+pub number_more : {l l₁ l₂ : Lines} (vs : List ℕ) (i : ℕ) → length l.bytes.now < 2 ^ 64 → i < length vs → Put l (numbers (take i vs)) l₁ → Put l₁ (space ∷ decimal (get_or vs i 0)) l₂ → Put l (numbers (take (i + 1) vs)) l₂
 number_more vs i h t p q =
-    rw (add-one i, take-suc vs i 0 t, numbers-append (take i vs) (get_or vs i 0 ∷ []), number-alone (get_or vs i 0)) (joins h p q)
+    rw (add-one i, take-suc vs i 0 t, numbers-append (take i vs) (get_or vs i 0 ∷ []), number-alone (get_or vs i 0)) (then h p q)
 
-pub line_put : {o o₁ o₂ o₃ : List ℕ} {at r₁ r₂ r₃ : ℕ} (word vs : List ℕ) → length o < 2 ^ 64 → Puts o at word o₁ r₁ → Puts o₁ r₁ (numbers vs) o₂ r₂ → Puts o₂ r₂ (newline ∷ []) o₃ r₃ → Puts o at (line word vs) o₃ r₃
+pub line_put : {l l₁ l₂ l₃ : Lines} (word vs : List ℕ) → length l.bytes.now < 2 ^ 64 → Put l word l₁ → Put l₁ (numbers vs) l₂ → Put l₂ (newline ∷ []) l₃ → Put l (line word vs) l₃
 unfolding line
-line_put word vs h p q s = joins h p (joins (omega (arith, same p)) q s)
+line_put word vs h p q s = then h p (then (omega (arith, same p.puts)) q s)

@@ -13,15 +13,18 @@ pub struct Lines<'a> {
 
 impl Lines<'_> {
     // One byte.
+    #[tactic(auto, using(crate::proofs::Putting::one_in, crate::proofs::Putting::one_out))]
     pub fn put_byte(&mut self, byte: u8)
         ensures { Put self.old (byte ∷ []) self.new }
     {
-        if self.at < self.bytes.len() {
-            self.bytes[self.at] = byte;
+        let at = self.at;
+        self.at = at.saturating_add(1);
+        if at < self.bytes.len() {
+            self.bytes[at] = byte;
         }
-        self.at = self.at.saturating_add(1);
     }
 
+    #[tactic(auto, using(crate::proofs::Putting::none))]
     pub fn put_bytes(&mut self, bytes: &[u8])
         ensures { Put self.old bytes.now self.new }
     {
@@ -48,6 +51,7 @@ impl Lines<'_> {
     }
 
     // Each of these numbers after a space.
+    #[tactic(auto, using(crate::proofs::Putting::none), unfolding(crate::specs::Lines::numbers))]
     pub fn put_numbers(&mut self, list: &[u64])
         ensures { Put self.old (numbers list.now) self.new }
     {
