@@ -8,7 +8,7 @@ ghost use Rattle.script_records.specs.Records.{body_length, whole};
 ghost use Rattle.script_calls.specs.Steps.{memory_of};
 ghost use Rattle.script_step.specs.Script.{listing, listing_from};
 
-use script_calls::Memory;
+use script_calls::memory::Memory;
 use script_text::Lines;
 
 // The bytes of a whole record.

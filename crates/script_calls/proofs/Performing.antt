@@ -16,13 +16,14 @@ use Rattle.model.specs.Prune.{prune_checkpoint_prefix}
 use Rattle.model.specs.LeafWalk.{seek}
 use Rattle.model.specs.Release.{destroy}
 use Rattle.model.proofs.Tests.{and_r, by_test, holds}
-use Rattle.script_text.specs.Lines.{line, Puts}
+use Rattle.script_text.specs.Lines.{line, Put}
+use Rattle.script_text.specs.declared.Lines.{Lines}
 use Rattle.script_records.specs.Records.{Request, Create, Append, Find, Prune, Walk, Release, Bad}
 use Rattle.answer_line.specs.Names.{create_name, append_name, prune_name, release_name, bad_record_name}
 use Rattle.answer_line.specs.Answers.{call_line, find_line}
-use Rattle.script_calls.specs.Calls.{lent_pages, walk_lines, create_length, if_accepted, perform}
-use Rattle.script_calls.specs.Steps.{memory, Does}
-use Rattle.script_calls.specs.declared.Progress.{Progress}
+use Rattle.script_calls.specs.Calls.{Memory, lent_pages, walk_lines, create_length, if_accepted, perform}
+use Rattle.script_calls.specs.Steps.{memory, memory_of, Does}
+use Rattle.script_calls.specs.declared.memory.Memory as M
 
 -- The length that a create gets ---------------------------------------------------------------------------
 
@@ -48,36 +49,41 @@ module _ (all C P : ℕ) where
 
 -- Calls -----------------------------------------------------------------------------------------------------
 
-module _ (w out : List ℕ) (u at : ℕ) (a : Answer) (v out₁ : List ℕ) (place : ℕ) where
-  pub creates : (C P s len used₁ : ℕ) → len ≡ create_length (length w) C P → a ≡ (create lent (take len w) C P s).answer → v ≡ (create lent (take len w) C P s).words → used₁ ≡ if_accepted a len u → Puts out at (call_line create_name a) out₁ place → Does (perform (memory w u) (Create C P s)) out at (v ++ drop len w) out₁ (record { used = used₁; at = place; goes = true })
+module _ (m m₁ : M.Memory) (l l₁ : Lines) (lent₁ : m₁.words.ghost_name ≡ m.words.ghost_name) (a : Answer) (v : List ℕ) where
+  pub creates : (C P s len : ℕ) → len ≡ create_length (length m.words.now) C P → a ≡ (create lent (take len m.words.now) C P s).answer → v ≡ (create lent (take len m.words.now) C P s).words → m₁.words.now ≡ v ++ drop len m.words.now → m₁.used ≡ if_accepted a len m.used → Put l (call_line create_name a) l₁ → Does (perform (memory_of m) (Create C P s)) m l m₁ l₁
   unfolding perform
-  creates C P s len used₁ is e f g p =
-      record { words = rw (f, is); used = rw (g, e, is); goes = refl; puts = rw (e, is) at p }
+  creates C P s len is e f w u p = record { lent = lent₁; words = rw (f, is) at w; used = rw (e, is) at u; puts = rw (e, is) at p }
 
-  pub appends : (k x : ℕ) → a ≡ (insert_row_page lent (take u w) k x).answer → v ≡ (insert_row_page lent (take u w) k x).words → Puts out at (call_line append_name a) out₁ place → Does (perform (memory w u) (Append k x)) out at (v ++ drop u w) out₁ (record { used = u; at = place; goes = true })
-  unfolding perform
-  appends k x e f p = record { words = rw f; used = refl; goes = refl; puts = rw e at p }
+  module _ (w : m₁.words.now ≡ v ++ drop m.used m.words.now) (u : m₁.used ≡ m.used) where
+    pub appends : (k x : ℕ) → a ≡ (insert_row_page lent (take m.used m.words.now) k x).answer → v ≡ (insert_row_page lent (take m.used m.words.now) k x).words → Put l (call_line append_name a) l₁ → Does (perform (memory_of m) (Append k x)) m l m₁ l₁
+    unfolding perform
+    appends k x e f p = record { lent = lent₁; words = rw f at w; used = u; puts = rw e at p }
 
-  pub finds : (q : ℕ) → a ≡ try_find_row lent (take u w) q → Puts out at (find_line a) out₁ place → Does (perform (memory w u) (Find q)) out at w out₁ (record { used = u; at = place; goes = true })
-  unfolding perform
-  finds q e p = record { words = refl; used = refl; goes = refl; puts = rw e at p }
+    pub prunes : (s e₀ : ℕ) (ids : List ℕ) → a ≡ (prune_checkpoint_prefix lent (take m.used m.words.now) s e₀ ids).answer → v ≡ (prune_checkpoint_prefix lent (take m.used m.words.now) s e₀ ids).words → Put l (call_line prune_name a) l₁ → Does (perform (memory_of m) (Prune s e₀ ids)) m l m₁ l₁
+    unfolding perform
+    prunes s e₀ ids e f p = record { lent = lent₁; words = rw f at w; used = u; puts = rw e at p }
 
-  pub prunes : (s e₀ : ℕ) (ids : List ℕ) → a ≡ (prune_checkpoint_prefix lent (take u w) s e₀ ids).answer → v ≡ (prune_checkpoint_prefix lent (take u w) s e₀ ids).words → Puts out at (call_line prune_name a) out₁ place → Does (perform (memory w u) (Prune s e₀ ids)) out at (v ++ drop u w) out₁ (record { used = u; at = place; goes = true })
-  unfolding perform
-  prunes s e₀ ids e f p = record { words = rw f; used = refl; goes = refl; puts = rw e at p }
+    pub releases : (q : ℕ) → a ≡ (destroy lent (take m.used m.words.now) q lent_pages).answer → v ≡ (destroy lent (take m.used m.words.now) q lent_pages).words → Put l (call_line release_name a) l₁ → Does (perform (memory_of m) (Release q)) m l m₁ l₁
+    unfolding perform
+    releases q e f p = record { lent = lent₁; words = rw f at w; used = u; puts = rw e at p }
 
-  pub releases : (q : ℕ) → a ≡ (destroy lent (take u w) q lent_pages).answer → v ≡ (destroy lent (take u w) q lent_pages).words → Puts out at (call_line release_name a) out₁ place → Does (perform (memory w u) (Release q)) out at (v ++ drop u w) out₁ (record { used = u; at = place; goes = true })
+module _ (m : M.Memory) (l l₁ : Lines) where
+  pub finds : (q : ℕ) (a : Answer) → a ≡ try_find_row lent (take m.used m.words.now) q → Put l (find_line a) l₁ → Does (perform (memory_of m) (Find q)) m l m l₁
   unfolding perform
-  releases q e f p = record { words = rw f; used = refl; goes = refl; puts = rw e at p }
+  finds q a e p = record { lent = refl; words = refl; used = refl; puts = rw e at p }
 
-module _ (w out : List ℕ) (u at : ℕ) (out₁ : List ℕ) where
-  pub walks : (place q : ℕ) → Puts out at (walk_lines (take u w) (length (take u w) + 1) (seek q)) out₁ place → Does (perform (memory w u) (Walk q)) out at w out₁ (record { used = u; at = place; goes = true })
+  pub walks : (q : ℕ) → Put l (walk_lines (take m.used m.words.now) (length (take m.used m.words.now) + 1) (seek q)) l₁ → Does (perform (memory_of m) (Walk q)) m l m l₁
   unfolding perform
-  walks place q p = record { words = refl; used = refl; goes = refl; puts = p }
+  walks q p = record { lent = refl; words = refl; used = refl; puts = p }
 
-  pub spoiled : (t : Progress) → (t.used ≡ u) × (t.goes ≡ false) × Puts out at (line bad_record_name []) out₁ t.at → Does (perform (memory w u) Bad) out at w out₁ t
+  pub spoiled : Put l (line bad_record_name []) l₁ → Does (perform (memory_of m) Bad) m l m l₁
   unfolding perform
-  spoiled t p = record { words = refl; used = p.0; goes = p.1; puts = p.2 }
+  spoiled p = record { lent = refl; words = refl; used = refl; puts = p }
+
+-- only a bad record ends a script
+pub bad-ends : (m : Memory) → (perform m Bad).goes ≡ false
+unfolding perform
+bad-ends m = refl
 
 -- the words in use are words of the memory
 accepted-fits : (a : Answer) (n m k : ℕ) → n ≤ k → m ≤ k → if_accepted a n m ≤ k

@@ -4,7 +4,7 @@ use Rattle.script_text.specs.Lines.{Put}
 use Rattle.script_text.specs.declared.Lines.{Lines}
 use Rattle.script_calls.specs.Calls as C
 use Rattle.script_calls.specs.Calls.{Performed}
-use Rattle.script_calls.specs.declared.Memory as M
+use Rattle.script_calls.specs.declared.memory.Memory as M
 
 -- the words w, of which u are in use
 abbrev pub memory : List ℕ → ℕ → C.Memory

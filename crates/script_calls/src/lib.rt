@@ -2,22 +2,18 @@
 
 #![tactic(auto)]
 
-ghost use Rattle.std.specs.Prelude.{◌≡◌, false, [], ◌≤◌, length, is_ok};
+pub mod memory;
+
+ghost use Rattle.std.specs.Prelude.{◌≡◌, false, [], is_ok};
 ghost use Rattle.script_text.specs.Lines.{Put, line};
 ghost use Rattle.answer_line.specs.Names.{bad_record_name};
 ghost use Rattle.script_records.specs.Records as R;
 ghost use Rattle.script_calls.specs.Calls.{perform};
 ghost use Rattle.script_calls.specs.Steps.{Does, memory_of};
 
+use memory::Memory;
 use model::id::{PageID, RowID};
 use script_text::Lines;
-
-// All words, and how many of them a call other than create gets.
-pub struct Memory<'a> {
-    pub words: &'a mut [u64],
-    pub used: usize,
-    ghost in_words: { used ≤ length words.now },
-}
 
 // What was read is no record.
 pub struct BadRecord;

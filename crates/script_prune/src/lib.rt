@@ -9,7 +9,7 @@ ghost use Rattle.script_calls.specs.Calls.{perform};
 ghost use Rattle.script_calls.specs.Steps.{Does, memory_of};
 
 use model::id::RowID;
-use script_calls::Memory;
+use script_calls::memory::Memory;
 use script_text::Lines;
 
 // The page ids stand in the body.

@@ -11,7 +11,8 @@ ghost use Rattle.script_records.specs.Read.{meant};
 ghost use Rattle.script_calls.specs.Calls.{perform};
 ghost use Rattle.script_calls.specs.Steps.{Does, memory_of};
 
-use script_calls::{BadRecord, Memory};
+use script_calls::BadRecord;
+use script_calls::memory::Memory;
 use script_records::Record;
 use script_text::Lines;
 

@@ -10,7 +10,7 @@ ghost use Rattle.script_calls.specs.Steps.{Does, memory_of};
 
 use model::cursor::RowPageIndexMemCursor;
 use model::id::RowID;
-use script_calls::Memory;
+use script_calls::memory::Memory;
 use script_text::Lines;
 
 // The leaves from a cursor on, as long as a leaf is given.

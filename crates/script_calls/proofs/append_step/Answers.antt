@@ -1,5 +1,4 @@
-use lib.Seq.{length-take-le}
-use mathlib.Core.Path.{sym, ◌∙◌}
+use mathlib.Core.Path.{refl}
 use Rattle.script_calls.proofs.Performing.{appends}
 use Rattle.script_calls.proofs.append_step.Goals as goal
 
@@ -7,4 +6,4 @@ pub returns : goal.returns
 returns c =
     let x = c.args in
     let r = c.insert_row_page-a.ensures in
-    appends x.s.now x.out.now x.used _ _ _ _ _ _ _ (c.from-n.ensures.answer ∙ r.answer) r.words c.put_answer-place.ensures
+    appends x.m.now _ x.out.now _ refl _ _ refl refl x.count x.page r.answer r.words c.put_answer.ensures

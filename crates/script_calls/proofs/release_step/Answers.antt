@@ -1,5 +1,4 @@
-use lib.Seq.{length-take-le}
-use mathlib.Core.Path.{sym, ◌∙◌}
+use mathlib.Core.Path.{refl}
 use Rattle.script_calls.proofs.Performing.{releases}
 use Rattle.script_calls.proofs.release_step.Goals as goal
 
@@ -7,4 +6,4 @@ pub returns : goal.returns
 returns c =
     let x = c.args in
     let r = c.destroy-a.ensures in
-    releases x.s.now x.out.now x.used _ _ _ _ _ _ (c.from-n.ensures.answer ∙ r.answer) r.words c.put_answer-place.ensures
+    releases x.m.now _ x.out.now _ refl _ _ refl refl x.pivot r.answer r.words c.put_answer.ensures
