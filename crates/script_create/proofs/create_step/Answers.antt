@@ -1,12 +1,17 @@
-use lib.Seq.{length-take-le}
-use mathlib.Core.Path.{sym, ◌∙◌}
-use lib.ListN.{length}
-use native.Mathlib.Omega.{arith}
-use Rattle.script_calls.proofs.Performing.{creates, within}
+use mathlib.Core.Path.{refl, sym, ◌∙◌}
+use Rattle.script_calls.proofs.Performing.{creates}
+use Rattle.script_create.proofs.Lengths.{done, not_done}
 use Rattle.script_create.proofs.create_step.Goals as goal
+use Rattle.script_create.proofs.create_step.Goals.{then-is_ok, else-is_ok}
 
 pub returns : goal.returns
 returns c =
     let x = c.args in
     let r = c.new-a.ensures in
-    creates x.s.now x.out.now x.used _ _ _ _ _ _ _ _ _ _ c.create_length-len.ensures.is (c.from-n.ensures.answer ∙ r.answer) r.words c.used_after.ensures c.put_answer-place.ensures
+    let n = c.create_length-len in
+    let a = c.new-a.result in
+    let e = sym c.is_ok.ensures.value in
+    elim c.if-is_ok.branch [
+      then-is_ok w ↦ rw w.m-is (creates x.m.now _ x.out.now _ refl _ _ x.capacity x.nodes x.start n.result n.ensures.is r.answer r.words refl (done a n.result x.m.now.used (e ∙ w.if-is_ok.true)) c.put_answer.ensures)
+    | else-is_ok w ↦ rw w.m-is (creates x.m.now _ x.out.now _ refl _ _ x.capacity x.nodes x.start n.result n.ensures.is r.answer r.words refl (not_done a n.result x.m.now.used (e ∙ w.if-is_ok.false)) c.put_answer.ensures)
+    ]
