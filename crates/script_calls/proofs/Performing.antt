@@ -21,7 +21,7 @@ use Rattle.script_text.specs.declared.Lines.{Lines}
 use Rattle.script_records.specs.Records.{Request, Create, Append, Find, Prune, Walk, Release, Bad}
 use Rattle.answer_line.specs.Names.{create_name, append_name, prune_name, release_name, bad_record_name}
 use Rattle.answer_line.specs.Answers.{call_line, find_line}
-use Rattle.script_calls.specs.Calls.{Memory, lent_pages, walk_lines, create_length, if_accepted, perform}
+use Rattle.script_calls.specs.Calls.{lent_pages, walk_lines, create_length, if_accepted, perform}
 use Rattle.script_calls.specs.Steps.{memory, memory_of, Does}
 use Rattle.script_calls.specs.declared.memory.Memory as M
 
@@ -79,11 +79,6 @@ module _ (m : M.Memory) (l l₁ : Lines) where
   pub spoiled : Put l (line bad_record_name []) l₁ → Does (perform (memory_of m) Bad) m l m l₁
   unfolding perform
   spoiled p = record { lent = refl; words = refl; used = refl; puts = p }
-
--- only a bad record ends a script
-pub bad-ends : (m : Memory) → (perform m Bad).goes ≡ false
-unfolding perform
-bad-ends m = refl
 
 -- the words in use are words of the memory
 accepted-fits : (a : Answer) (n m k : ℕ) → n ≤ k → m ≤ k → if_accepted a n m ≤ k

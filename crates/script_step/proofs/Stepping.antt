@@ -7,16 +7,17 @@ use native.Mathlib.Omega.{arith}
 use lib.ListN.{length, drop, replicate, length-drop, length-replicate}
 use Rattle.model.specs.Words.{pick, free_count}
 use Rattle.model.proofs.Tests.{by_test}
-use Rattle.script_text.specs.Lines.{Puts, line}
-use Rattle.script_text.proofs.Putting.{joins}
+use Rattle.script_text.specs.Lines.{Put, line}
+use Rattle.script_text.specs.declared.Lines.{Lines}
+use Rattle.script_text.proofs.Putting.{then}
 use Rattle.script_records.specs.Records.{body_length, whole, first}
 use Rattle.script_records.proofs.Heads.{within}
 use Rattle.answer_line.specs.Names.{free_name}
 use Rattle.script_calls.specs.Calls.{Memory, perform}
 use Rattle.script_walk.proofs.Short.{line-short, short}
-use Rattle.script_step.specs.Script.{listing_from, listing_of, turn}
-use Rattle.script_calls.specs.Steps.{memory, Does}
-use Rattle.script_calls.specs.declared.Progress.{Progress}
+use Rattle.script_calls.specs.Steps.{memory, memory_of, Does}
+use Rattle.script_calls.specs.declared.memory.Memory as M
+use Rattle.script_step.specs.Script.{free_line, listing_from, listing_of, turn}
 
 pub goes-whole : (m : Memory) (bs : List ℕ) → (perform m (first bs)).goes ≡ true → whole bs ≡ true
 unfolding first perform
@@ -66,29 +67,29 @@ unfolding turn
 turn-some m [] h = absurd (omega arith)
 turn-some m (b ∷ bs) h = refl
 
+ends_with : (m : Memory) (bs : List ℕ) → length bs ≡ 0 → turn m bs ≡ record { lines = free_line m; memory = m; goes = false }
+unfolding turn
+ends_with m [] h = refl
+ends_with m (b ∷ bs) h = absurd (omega arith)
+
 pub turn-short : (m : Memory) (bs : List ℕ) → length m.words ≤ 4096 → length (turn m bs).lines ≤ 65536
 unfolding turn
 turn-short m [] h = omega (arith, line-short free_name (free_count m.words ∷ []))
 turn-short m (b ∷ bs) h = short m h (first (b ∷ bs))
 
-pub turn-none : (w : List ℕ) (u : ℕ) (bs : List ℕ) {out out₁ : List ℕ} {r : ℕ} → length bs ≡ 0 → Puts out 0 (line free_name (free_count w ∷ [])) out₁ r → Does (turn (memory w u) bs) out 0 w out₁ (record { used = u; at = r; goes = false })
-unfolding turn
-turn-none w u [] h p = record { words = refl; used = refl; goes = refl; puts = p }
-turn-none w u (b ∷ bs) h p = absurd (omega arith)
+module _ (m : M.Memory) (bs : List ℕ) where
+  pub turn-none : {l l₁ : Lines} → length bs ≡ 0 → Put l (line free_name (free_count m.words.now ∷ [])) l₁ → Does (turn (memory_of m) bs) m l m l₁
+  turn-none {l} {l₁} h p = rw (ends_with (memory_of m) bs h) (record { lent = refl; words = refl; used = refl; puts = p })
 
-module _ (w : List ℕ) (u : ℕ) (bs : List ℕ) (some : 0 < length bs) {out w₁ out₁ : List ℕ} {at : ℕ} {t : Progress} (d : Does (perform (memory w u) (first bs)) out at w₁ out₁ t) where
-  pub stops : t.goes ≡ false → Puts out at (listing_from (length bs) (memory w u) bs) out₁ t.at
-  stops g =
-      let q : (perform (memory w u) (first bs)).goes ≡ false = sym d.goes ∙ g in
-      rw (one_record (memory w u) bs some, q, append-nil) d.puts
+  module _ (some : 0 < length bs) {m₁ : M.Memory} {l l₁ : Lines} (d : Does (perform (memory_of m) (first bs)) m l m₁ l₁) where
+    pub stops : (perform (memory_of m) (first bs)).goes ≡ false → Put l (listing_from (length bs) (memory_of m) bs) l₁
+    stops g = rw (one_record (memory_of m) bs some, g, append-nil) d.puts
 
-  pub goes_on : length out < 2 ^ 64 → t.goes ≡ true → (n : ℕ) → n ≡ 4 + body_length bs → (o : List ℕ) (r : ℕ) → Puts out₁ t.at (listing_from (length (drop n bs)) (memory w₁ t.used) (drop n bs)) o r → Puts out at (listing_from (length bs) (memory w u) bs) o r
-  goes_on h g n e o r p =
-      let q : (perform (memory w u) (first bs)).goes ≡ true = sym d.goes ∙ g in
-      rw (one_record (memory w u) bs some, q) (joins h d.puts (rw (d.words, d.used, e) at p))
+    pub goes_on : (perform (memory_of m) (first bs)).goes ≡ true → (n : ℕ) → n ≡ 4 + body_length bs → (l₂ : Lines) → Put l₁ (listing_from (length (drop n bs)) (memory_of m₁) (drop n bs)) l₂ → Put l (listing_from (length bs) (memory_of m) bs) l₂
+    goes_on g n e l₂ p = rw (one_record (memory_of m) bs some, g) (then d.puts (rw (d.words, d.used, e) at p))
 
-  pub next_fits : t.goes ≡ true → 4 + body_length bs ≤ length bs
-  next_fits g = (within bs (goes-whole (memory w u) bs (sym d.goes ∙ g))).1
+pub next_fits : (m : Memory) (bs : List ℕ) → (perform m (first bs)).goes ≡ true → 4 + body_length bs ≤ length bs
+next_fits m bs g = (within bs (goes-whole m bs g)).1
 
 -- the listing from words that are zero at first
 pub from-zeros : (n : ℕ) (bs : List ℕ) → listing_from (length bs) (memory (replicate n 0) (length {A = ℕ} (replicate n 0))) bs ≡ listing_of n bs

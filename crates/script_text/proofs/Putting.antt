@@ -54,12 +54,12 @@ same {o} {o₁} {at} {r} {xs} p = ap length p.is ∙ length-fill o at xs
 pub none : (l : Lines) → l.at < 2 ^ 64 → Put l [] l
 none l h = record { lent = refl; puts = nothing l.bytes.now l.at h }
 
-pub then : {l l₁ l₂ : Lines} {xs ys : List ℕ} → length l.bytes.now < 2 ^ 64 → Put l xs l₁ → Put l₁ ys l₂ → Put l (xs ++ ys) l₂
-then h p q = record { lent = q.lent ∙ p.lent; puts = joins h p.puts q.puts }
+pub then : {l l₁ l₂ : Lines} {xs ys : List ℕ} → Put l xs l₁ → Put l₁ ys l₂ → Put l (xs ++ ys) l₂
+then {l} p q = record { lent = q.lent ∙ p.lent; puts = joins l.short p.puts q.puts }
 
 -- a list put byte by byte
-pub one_more : {l l₁ l₂ : Lines} (bs : List ℕ) (i : ℕ) → length l.bytes.now < 2 ^ 64 → i < length bs → Put l (take i bs) l₁ → Put l₁ (get_or bs i 0 ∷ []) l₂ → Put l (take (i + 1) bs) l₂
-one_more bs i h t p q = rw (add-one i, take-suc bs i 0 t) (then h p q)
+pub one_more : {l l₁ l₂ : Lines} (bs : List ℕ) (i : ℕ) → i < length bs → Put l (take i bs) l₁ → Put l₁ (get_or bs i 0 ∷ []) l₂ → Put l (take (i + 1) bs) l₂
+one_more bs i t p q = rw (add-one i, take-suc bs i 0 t) (then p q)
 
 numbers-append : (xs ys : List ℕ) → numbers (xs ++ ys) ≡ numbers xs ++ numbers ys
 unfolding numbers
@@ -71,10 +71,10 @@ unfolding numbers
 number-alone v = rw append-nil
 
 -- numbers put one by one
-pub number_more : {l l₁ l₂ : Lines} (vs : List ℕ) (i : ℕ) → length l.bytes.now < 2 ^ 64 → i < length vs → Put l (numbers (take i vs)) l₁ → Put l₁ (space ∷ decimal (get_or vs i 0)) l₂ → Put l (numbers (take (i + 1) vs)) l₂
-number_more vs i h t p q =
-    rw (add-one i, take-suc vs i 0 t, numbers-append (take i vs) (get_or vs i 0 ∷ []), number-alone (get_or vs i 0)) (then h p q)
+pub number_more : {l l₁ l₂ : Lines} (vs : List ℕ) (i : ℕ) → i < length vs → Put l (numbers (take i vs)) l₁ → Put l₁ (space ∷ decimal (get_or vs i 0)) l₂ → Put l (numbers (take (i + 1) vs)) l₂
+number_more vs i t p q =
+    rw (add-one i, take-suc vs i 0 t, numbers-append (take i vs) (get_or vs i 0 ∷ []), number-alone (get_or vs i 0)) (then p q)
 
-pub line_put : {l l₁ l₂ l₃ : Lines} (word vs : List ℕ) → length l.bytes.now < 2 ^ 64 → Put l word l₁ → Put l₁ (numbers vs) l₂ → Put l₂ (newline ∷ []) l₃ → Put l (line word vs) l₃
+pub line_put : {l l₁ l₂ l₃ : Lines} (word vs : List ℕ) → Put l word l₁ → Put l₁ (numbers vs) l₂ → Put l₂ (newline ∷ []) l₃ → Put l (line word vs) l₃
 unfolding line
-line_put word vs h p q s = then h p (then (omega (arith, same p.puts)) q s)
+line_put word vs p q s = then p (then q s)

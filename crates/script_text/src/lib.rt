@@ -2,16 +2,18 @@
 
 #![tactic(auto)]
 
-ghost use Rattle.std.specs.Prelude.{[], ◌∷◌};
-ghost use Rattle.script_text.specs.Lines.{Put, decimal, line, numbers, newline, space};
+ghost use Rattle.std.specs.Prelude.{[], ◌∷◌, ◌^◌, ◌<◌, length};
 
 // What fits is written, the rest of the bytes stay, and the place counts what did not fit too.
 pub struct Lines<'a> {
     pub bytes: &'a mut [u8],
     pub at: usize,
+    ghost short: { length bytes.now < 2 ^ 64 },
 }
 
 impl Lines<'_> {
+    ghost use Rattle.script_text.specs.Lines.{Put, decimal, line, numbers, newline, space};
+
     // One byte.
     #[tactic(auto, using(crate::proofs::Putting::one_in, crate::proofs::Putting::one_out))]
     pub fn put_byte(&mut self, byte: u8)

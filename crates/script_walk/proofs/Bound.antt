@@ -19,12 +19,11 @@ use Rattle.model.proofs.Sound.{sound-ends, meets-is}
 use Rattle.model.proofs.Words.{nodes-few}
 use Rattle.model.proofs.Header.{header_of}
 use Rattle.model.proofs.Tests.{by_test, holds}
-use Rattle.script_text.specs.Lines.{Puts}
+use Rattle.script_text.specs.Lines.{Put}
+use Rattle.script_text.specs.declared.Lines.{Lines}
 use Rattle.answer_line.specs.Answers.{leaf_lines}
 use Rattle.script_calls.specs.Calls.{lent_records, walk_lines}
-use Rattle.script_walk.specs.Walked.{WalkPuts}
-use Rattle.script_walk.specs.declared.WalkStep.{WalkStep}
-use Rattle.script_walk.proofs.Walking.{walks-on, walks-out}
+use Rattle.script_walk.proofs.Walking.{Walks, walks-on, walks-out}
 
 differ : {A : Type 0} → false ≡ true → A
 differ e = let z : ◌≡◌ {A = ℕ} 0 1 = cc in absurd (omega arith)
@@ -180,19 +179,19 @@ enough w (suc j) (suc k) c h l =
 
 -- A turn of a walk ----------------------------------------------------------------------------------------
 
-module _ (s : List ℕ) (c : RowPageIndexMemCursor) {out out₁ : List ℕ} {place : ℕ} {t : WalkStep} (w : WalkPuts (next_leaf_of lent s c lent_records) out place out₁ t) where
+module _ (s : List ℕ) (c : RowPageIndexMemCursor) {l l₁ : Lines} {c₁ : RowPageIndexMemCursor} {goes : Bool} (w : Walks (next_leaf_of lent s c lent_records) l c₁ goes l₁) where
   one_of : left s c ≡ suc (left s c - 1)
   one_of = omega (arith, left-some s c)
 
-  pub ends : t.goes ≡ false → Puts out place (walk_lines s (left s c) c) out₁ t.at
-  ends g = subst (λ (k : ℕ). Puts out place (walk_lines s k c) out₁ t.at) (sym one_of) (walks-out s c (left s c - 1) w g)
+  pub ends : goes ≡ false → Put l (walk_lines s (left s c) c) l₁
+  ends g = subst (λ (k : ℕ). Put l (walk_lines s k c) l₁) (sym one_of) (walks-out s c (left s c - 1) w g)
 
-  pub fewer : t.goes ≡ true → left s t.cursor < left s c
+  pub fewer : goes ≡ true → left s c₁ < left s c
   fewer g = subst (λ (d : RowPageIndexMemCursor). left s d < left s c) (sym w.cursor) (falls s c lent_records (sym w.goes ∙ g))
 
-  pub goes_on : length out < 2 ^ 64 → t.goes ≡ true → (o : List ℕ) (r : ℕ) → Puts out₁ t.at (walk_lines s (left s t.cursor) t.cursor) o r → Puts out place (walk_lines s (left s c) c) o r
-  goes_on h g o r p =
+  pub goes_on : goes ≡ true → (l₂ : Lines) → Put l₁ (walk_lines s (left s c₁) c₁) l₂ → Put l (walk_lines s (left s c) c) l₂
+  goes_on g l₂ p =
       let f = fewer g in
-      let e = enough s (left s t.cursor) (left s c - 1) t.cursor (omega arith) (omega arith) in
-      subst (λ (k : ℕ). Puts out place (walk_lines s k c) o r) (sym one_of)
-      (walks-on s c (left s c - 1) h w g o r (subst (λ (ls : List ℕ). Puts out₁ t.at ls o r) e p))
+      let e = enough s (left s c₁) (left s c - 1) c₁ (omega arith) (omega arith) in
+      subst (λ (k : ℕ). Put l (walk_lines s k c) l₂) (sym one_of)
+      (walks-on s c (left s c - 1) w g l₂ (subst (λ (ls : List ℕ). Put l₁ ls l₂) e p))

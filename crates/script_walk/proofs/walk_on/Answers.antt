@@ -1,39 +1,38 @@
-use borrow.Author.Rules.{rules}
-use borrow.Author.Tests.{not-true, not-false}
-use Prim.Native.Nat.{ℕ, ◌+◌, ◌^◌, ◌<◌}
-use mathlib.Core.Path.{refl, ◌∙◌, subst}
+use Prim.Native.Nat.{ℕ, ◌+◌}
+use mathlib.Core.Path.{◌∙◌, subst}
 use mathlib.Core.List.{List}
 use native.Mathlib.Omega.{arith}
 use lib.ListN.{length}
-use Rattle.script_text.specs.Lines.{Puts}
-use Rattle.script_text.proofs.Putting.{same}
+use Rattle.script_text.specs.Lines.{Put}
+use Rattle.script_walk.proofs.Walking.{once}
 use Rattle.script_walk.proofs.Bound.{left, left-bound, enough, ends, fewer, goes_on}
 use Rattle.script_walk.proofs.walk_on.Goals as goal
 
-pub loop-t-init : goal.loop-t-init
-loop-t-init c =
+pub loop-step-init : goal.loop-step-init
+loop-step-init c =
     let a = c.args in
-    let e = enough a.s.now (left a.s.now a.cursor) (length a.s.now + 1) a.cursor (omega arith) (left-bound a.s.now a.cursor) in
-    (c.requires, refl, λ o r p. subst (λ (ls : List ℕ). Puts a.out.now a.at ls o r) e p)
+    let s = a.s.now in
+    let e = enough s (left s a.cursor) (length s + 1) a.cursor (omega arith) (left-bound s a.cursor) in
+    record { list = c.requires; rest = λ l₂ p. subst (λ (ls : List ℕ). Put a.out.now ls l₂) e p }
 
-pub walk_once-t-requires : goal.walk_once-t-requires
-walk_once-t-requires c = c.loop-t.invariant.0
+pub returns-then-not-gives_leaf : goal.returns-then-not-gives_leaf
+returns-then-not-gives_leaf c =
+    let v = c.loop-step in
+    let w = once v.invariant.list c.next_words-step.ensures c.put_answer.ensures c.gives_leaf.ensures in
+    v.invariant.rest _ (ends c.args.s.now v.c w c.if-not-gives_leaf.true)
 
-pub returns-then-not-t : goal.returns-then-not-t
-returns-then-not-t c =
-    let v = c.loop-t in
-    v.invariant.2 _ _ (ends c.args.s.now v.c c.walk_once-t.ensures (not-true _ c.if-not-t.true))
+pub loop-step-smaller : goal.loop-step-smaller
+loop-step-smaller c =
+    let v = c.loop-step in
+    let w = once v.invariant.list c.next_words-step.ensures c.put_answer.ensures c.gives_leaf.ensures in
+    fewer c.args.s.now v.c w c.if-not-gives_leaf.false
 
-pub loop-t-smaller : goal.loop-t-smaller
-loop-t-smaller c = fewer c.args.s.now c.loop-t.c c.walk_once-t.ensures (not-false _ c.if-not-t.false)
-
-pub loop-t-preserved : goal.loop-t-preserved
-loop-t-preserved c =
-    let a = c.args in
-    let v = c.loop-t in
-    let t = c.walk_once-t.ensures in
-    let small : length v.out < 2 ^ 64 = omega arith in (
-      search rules,
-      same t.puts ∙ v.invariant.1,
-      λ o r p. v.invariant.2 o r (goes_on a.s.now v.c t small (not-false _ c.if-not-t.false) o r p),
-    )
+pub loop-step-preserved : goal.loop-step-preserved
+loop-step-preserved c =
+    let s = c.args.s.now in
+    let v = c.loop-step in
+    let w = once v.invariant.list c.next_words-step.ensures c.put_answer.ensures c.gives_leaf.ensures in
+    record {
+      list = c.next_words-step.auto.out ∙ v.invariant.list;
+      rest = λ l₂ p. v.invariant.rest l₂ (goes_on s v.c w c.if-not-gives_leaf.false l₂ p);
+    }

@@ -1,15 +1,18 @@
 use Prim.Native.Nat.{ℕ, ◌+◌}
 use mathlib.Core.Path.{◌≡◌}
-use mathlib.Core.List.{List}
 use lib.ListN.{length}
-use Rattle.script_text.specs.Lines.{Puts}
+use Rattle.script_text.specs.Lines.{Put}
+use Rattle.script_text.specs.declared.Lines.{Lines}
 use Rattle.script_calls.specs.Calls.{walk_lines}
 use Rattle.script_walk.proofs.Bound.{left}
 use Rattle.script_walk.proofs.walk_on.Given as goal
 
-abbrev pub invariant-loop-t : goal.invariant-loop-t
-invariant-loop-t l = (length l.list ≡ 4096) × (length l.out ≡ length l.initial.out)
-    × ((o : List ℕ) (r : ℕ) → Puts l.out l.place (walk_lines l.s (left l.s l.c) l.c) o r → Puts l.initial.out l.at (walk_lines l.s (length l.s + 1) l.initial.c) o r)
+-- the lines from here on make the lines of the whole walk
+abbrev pub invariant-loop-step : goal.invariant-loop-step
+invariant-loop-step l = record {
+  list : length l.list ≡ 4096;
+  rest : (l₂ : Lines) → Put l.out (walk_lines l.s (left l.s l.c) l.c) l₂ → Put l.initial.out (walk_lines l.s (length l.s + 1) l.initial.c) l₂;
+}
 
-abbrev pub decreases-loop-t : goal.decreases-loop-t
-decreases-loop-t l = left l.s l.c
+abbrev pub decreases-loop-step : goal.decreases-loop-step
+decreases-loop-step l = left l.s l.c

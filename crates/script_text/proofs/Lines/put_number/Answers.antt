@@ -1,6 +1,5 @@
-use native.Mathlib.Omega.{arith}
 use Rattle.script_text.proofs.Putting.{then}
 use Rattle.script_text.proofs.Lines.put_number.Goals as goal
 
 pub returns : goal.returns
-returns c = then (omega arith) c.put_byte.ensures c.put_decimal.ensures
+returns c = then c.put_byte.ensures c.put_decimal.ensures
