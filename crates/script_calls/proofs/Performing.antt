@@ -1,10 +1,10 @@
 -- What each call does, from its answer, its words and its line.
 use Prim.Native.Nat.{ℕ, ◌+◌, ◌≤◌, ◌<◌}
-use mathlib.Core.Path.{◌≡◌, refl}
+use mathlib.Core.Path.{◌≡◌, refl, ◌∙◌, ap}
 use mathlib.Core.List.{List, [], ◌++◌}
 use mathlib.Core.Bool.{true, false, ◌&&◌}
 use native.Mathlib.Omega.{arith}
-use lib.ListN.{length, take, drop}
+use lib.ListN.{length, take, drop, length-append, length-drop, length-take}
 use lib.Dec.{leb, leb→le}
 use borrow.Author.Tests.{le-leb, lt-leb}
 use Rattle.model.specs.Words.{lent, in_range, store_length}
@@ -49,36 +49,42 @@ module _ (all C P : ℕ) where
 
 -- Calls -----------------------------------------------------------------------------------------------------
 
-module _ (m m₁ : M.Memory) (l l₁ : Lines) (lent₁ : m₁.words.ghost_name ≡ m.words.ghost_name) (a : Answer) (v : List ℕ) where
-  pub creates : (C P s len : ℕ) → len ≡ create_length (length m.words.now) C P → a ≡ (create lent (take len m.words.now) C P s).answer → v ≡ (create lent (take len m.words.now) C P s).words → m₁.words.now ≡ v ++ drop len m.words.now → m₁.used ≡ if_accepted a len m.used → Put l (call_line create_name a) l₁ → Does (perform (memory_of m) (Create C P s)) m l m₁ l₁
-  unfolding perform
-  creates C P s len is e f w u p = record { lent = lent₁; words = rw (f, is) at w; used = rw (e, is) at u; puts = rw (e, is) at p }
+as_many : (u : ℕ) (w v : List ℕ) → u ≤ length w → length v ≡ length (take u w) → length (v ++ drop u w) ≡ length w
+as_many u w v h e = omega (arith, length-append v (drop u w), length-drop u w, length-take u w)
 
-  module _ (w : m₁.words.now ≡ v ++ drop m.used m.words.now) (u : m₁.used ≡ m.used) where
+module _ (m m₁ : M.Memory) (l l₁ : Lines) (lent₁ : m₁.words.ghost_name ≡ m.words.ghost_name) (a : Answer) (v : List ℕ) where
+  pub creates : (C P s len : ℕ) → length v ≡ length (take len m.words.now) → len ≡ create_length (length m.words.now) C P → a ≡ (create lent (take len m.words.now) C P s).answer → v ≡ (create lent (take len m.words.now) C P s).words → m₁.words.now ≡ v ++ drop len m.words.now → m₁.used ≡ if_accepted a len m.used → Put l (call_line create_name a) l₁ → Does (perform (memory_of m) (Create C P s)) m l m₁ l₁
+  unfolding perform
+  creates C P s len n is e f w u p = record { lent = lent₁; many = ap length w ∙ as_many len m.words.now v (omega (arith, within (length m.words.now) C P)) n; words = rw (f, is) at w; used = rw (e, is) at u; puts = rw (e, is) at p }
+
+  module _ (n : length v ≡ length (take m.used m.words.now)) (w : m₁.words.now ≡ v ++ drop m.used m.words.now) (u : m₁.used ≡ m.used) where
+    same_many : length m₁.words.now ≡ length m.words.now
+    same_many = ap length w ∙ as_many m.used m.words.now v m.in_words n
+
     pub appends : (k x : ℕ) → a ≡ (insert_row_page lent (take m.used m.words.now) k x).answer → v ≡ (insert_row_page lent (take m.used m.words.now) k x).words → Put l (call_line append_name a) l₁ → Does (perform (memory_of m) (Append k x)) m l m₁ l₁
     unfolding perform
-    appends k x e f p = record { lent = lent₁; words = rw f at w; used = u; puts = rw e at p }
+    appends k x e f p = record { lent = lent₁; many = same_many; words = rw f at w; used = u; puts = rw e at p }
 
     pub prunes : (s e₀ : ℕ) (ids : List ℕ) → a ≡ (prune_checkpoint_prefix lent (take m.used m.words.now) s e₀ ids).answer → v ≡ (prune_checkpoint_prefix lent (take m.used m.words.now) s e₀ ids).words → Put l (call_line prune_name a) l₁ → Does (perform (memory_of m) (Prune s e₀ ids)) m l m₁ l₁
     unfolding perform
-    prunes s e₀ ids e f p = record { lent = lent₁; words = rw f at w; used = u; puts = rw e at p }
+    prunes s e₀ ids e f p = record { lent = lent₁; many = same_many; words = rw f at w; used = u; puts = rw e at p }
 
     pub releases : (q : ℕ) → a ≡ (destroy lent (take m.used m.words.now) q lent_pages).answer → v ≡ (destroy lent (take m.used m.words.now) q lent_pages).words → Put l (call_line release_name a) l₁ → Does (perform (memory_of m) (Release q)) m l m₁ l₁
     unfolding perform
-    releases q e f p = record { lent = lent₁; words = rw f at w; used = u; puts = rw e at p }
+    releases q e f p = record { lent = lent₁; many = same_many; words = rw f at w; used = u; puts = rw e at p }
 
 module _ (m : M.Memory) (l l₁ : Lines) where
   pub finds : (q : ℕ) (a : Answer) → a ≡ try_find_row lent (take m.used m.words.now) q → Put l (find_line a) l₁ → Does (perform (memory_of m) (Find q)) m l m l₁
   unfolding perform
-  finds q a e p = record { lent = refl; words = refl; used = refl; puts = rw e at p }
+  finds q a e p = record { lent = refl; many = refl; words = refl; used = refl; puts = rw e at p }
 
   pub walks : (q : ℕ) → Put l (walk_lines (take m.used m.words.now) (length (take m.used m.words.now) + 1) (seek q)) l₁ → Does (perform (memory_of m) (Walk q)) m l m l₁
   unfolding perform
-  walks q p = record { lent = refl; words = refl; used = refl; puts = p }
+  walks q p = record { lent = refl; many = refl; words = refl; used = refl; puts = p }
 
   pub spoiled : Put l (line bad_record_name []) l₁ → Does (perform (memory_of m) Bad) m l m l₁
   unfolding perform
-  spoiled p = record { lent = refl; words = refl; used = refl; puts = p }
+  spoiled p = record { lent = refl; many = refl; words = refl; used = refl; puts = p }
 
 -- the words in use are words of the memory
 accepted-fits : (a : Answer) (n m k : ℕ) → n ≤ k → m ≤ k → if_accepted a n m ≤ k

@@ -16,6 +16,7 @@ use model::id::{PageID, RowID};
 use script_text::Lines;
 
 // What was read is no record.
+#[derive(Clone, Copy)]
 pub struct BadRecord;
 
 pub fn append_step(m: &mut Memory<'_>, count: u64, page: u64, out: &mut Lines<'_>)

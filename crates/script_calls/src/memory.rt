@@ -3,6 +3,7 @@
 ghost use Rattle.std.specs.Prelude.{◌≤◌, length};
 
 // All words, and how many of them a call other than create gets.
+#[derive(Drop)]
 pub struct Memory<'a> {
     pub words: &'a mut [u64],
     pub used: usize,

@@ -62,6 +62,12 @@ unfolding turn listing_from
 turns m [] = sym (append-nil _)
 turns m (b ∷ bs) = one_record m (b ∷ bs) (omega arith)
 
+-- where no bytes are left
+pub last_line : (m : Memory) (bs : List ℕ) → length bs ≡ 0 → listing_from (length bs) m bs ≡ free_line m
+unfolding listing_from
+last_line m [] h = refl
+last_line m (b ∷ bs) h = absurd (omega arith)
+
 pub turn-some : (m : Memory) (bs : List ℕ) → 0 < length bs → turn m bs ≡ perform m (first bs)
 unfolding turn
 turn-some m [] h = absurd (omega arith)
@@ -79,7 +85,7 @@ turn-short m (b ∷ bs) h = short m h (first (b ∷ bs))
 
 module _ (m : M.Memory) (bs : List ℕ) where
   pub turn-none : {l l₁ : Lines} → length bs ≡ 0 → Put l (line free_name (free_count m.words.now ∷ [])) l₁ → Does (turn (memory_of m) bs) m l m l₁
-  turn-none {l} {l₁} h p = rw (ends_with (memory_of m) bs h) (record { lent = refl; words = refl; used = refl; puts = p })
+  turn-none {l} {l₁} h p = rw (ends_with (memory_of m) bs h) (record { lent = refl; many = refl; words = refl; used = refl; puts = p })
 
   module _ (some : 0 < length bs) {m₁ : M.Memory} {l l₁ : Lines} (d : Does (perform (memory_of m) (first bs)) m l m₁ l₁) where
     pub stops : (perform (memory_of m) (first bs)).goes ≡ false → Put l (listing_from (length bs) (memory_of m) bs) l₁
@@ -92,6 +98,6 @@ pub next_fits : (m : Memory) (bs : List ℕ) → (perform m (first bs)).goes ≡
 next_fits m bs g = (within bs (goes-whole m bs g)).1
 
 -- the listing from words that are zero at first
-pub from-zeros : (n : ℕ) (bs : List ℕ) → listing_from (length bs) (memory (replicate n 0) (length {A = ℕ} (replicate n 0))) bs ≡ listing_of n bs
+pub from-zeros : (n : ℕ) (bs : List ℕ) → listing_from (length bs) (memory (replicate n 0) n) bs ≡ listing_of n bs
 unfolding listing_of
-from-zeros n bs = let z : ℕ = 0 in rw (length-replicate n z)
+from-zeros n bs = refl

@@ -5,6 +5,7 @@
 ghost use Rattle.std.specs.Prelude.{[], ◌∷◌, ◌^◌, ◌<◌, length};
 
 // What fits is written, the rest of the bytes stay, and the place counts what did not fit too.
+#[derive(Drop)]
 pub struct Lines<'a> {
     pub bytes: &'a mut [u8],
     pub at: usize,

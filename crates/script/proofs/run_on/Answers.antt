@@ -1,92 +1,55 @@
-use borrow.Author.Rules.{rules}
-use borrow.Author.Tests.{not-true, not-false}
-use borrow.Author.Rules.{part_to_end}
-use Prim.Native.Nat.{◌^◌, ◌<◌}
-use mathlib.Core.Path.{◌≡◌, refl, sym, ◌∙◌}
+use borrow.Author.Rules.{rules, part_to_end}
+use borrow.Author.Tests.{eqb-true, eqb-false}
+use Prim.Native.Nat.{◌<◌}
+use mathlib.Core.Path.{◌≡◌, sym, ◌∙◌}
 use native.Mathlib.Omega.{arith}
-use lib.ListN.{length, drop, length-drop, drop_of_length-le}
-use lib.Seq.{drop-drop}
-use Rattle.script_text.proofs.Putting.{same}
-use Rattle.script_records.specs.Records.{first}
-use Rattle.script_calls.proofs.Performing.{used-fits}
-use Rattle.script_step.specs.Script.{listing_from}
-use Rattle.script_calls.specs.Steps.{memory}
-use Rattle.script_step.proofs.Stepping.{goes-whole, stops, goes_on, next_fits}
+use lib.ListN.{length}
+use Rattle.script_calls.specs.Steps.{memory_of}
+use Rattle.script_step.proofs.Stepping.{last_line, goes-whole, stops, goes_on, next_fits}
 use Rattle.script.proofs.run_on.Goals as goal
 
-pub loop-pos-init : goal.loop-pos-init
-loop-pos-init c = (refl, refl, omega arith, omega arith, λ o r p. p)
+pub returns-then-is_err : goal.returns-then-is_err
+returns-then-is_err c =
+    let v = c.loop-rest in
+    let bs = v.rest.now in
+    let n = eqb-false (length bs) 0 (sym c.loop-rest-test.ensures) in
+    let d = c.step.ensures in
+    v.invariant.rest _ (stops v.m bs (omega arith) d.does (sym d.goes ∙ c.if-is_err.ensures.negation))
 
-pub step-t-requires : goal.step-t-requires
-step-t-requires c = omega arith
+pub record_length-requires : goal.record_length-requires
+record_length-requires c =
+    let v = c.loop-rest in
+    goes-whole (memory_of v.m) v.rest.now (sym c.step.ensures.goes ∙ c.if-is_err.ensures.negation)
 
-pub returns-then-not-t : goal.returns-then-not-t
-returns-then-not-t c =
-    let a = c.args in
-    let v = c.loop-pos in
-    let bs = drop v.pos a.script.now in
-    let some : 0 < length bs = omega (arith, length-drop v.pos a.script.now, c.loop-pos-test.true) in
-    let d = rw (part_to_end a.script.now v.pos) at c.step-t.ensures in
-    v.invariant.4 _ _ (stops v.s v.used bs some d (not-true _ c.if-not-t.true))
+pub slice_bounds-rest-count : goal.slice_bounds-rest-count
+slice_bounds-rest-count c =
+    let v = c.loop-rest in
+    let f = next_fits (memory_of v.m) v.rest.now (sym c.step.ensures.goes ∙ c.if-is_err.ensures.negation) in
+    omega arith
 
-pub record_length-pos-requires : goal.record_length-pos-requires
-record_length-pos-requires c =
-    let a = c.args in
-    let v = c.loop-pos in
-    let bs = drop v.pos a.script.now in
-    let some : 0 < length bs = omega (arith, length-drop v.pos a.script.now, c.loop-pos-test.true) in
-    let d = rw (part_to_end a.script.now v.pos) at c.step-t.ensures in
-    rw (part_to_end a.script.now v.pos) (goes-whole (memory v.s v.used) bs (sym d.goes ∙ not-false _ c.if-not-t.false))
+pub slice_bounds-rest-start : goal.slice_bounds-rest-start
+slice_bounds-rest-start c =
+    let v = c.loop-rest in
+    let f = next_fits (memory_of v.m) v.rest.now (sym c.step.ensures.goes ∙ c.if-is_err.ensures.negation) in
+    search rules
 
-pub overflow_add-pos : goal.overflow_add-pos
-overflow_add-pos c =
-    let a = c.args in
-    let v = c.loop-pos in
-    let bs = drop v.pos a.script.now in
-    let some : 0 < length bs = omega (arith, length-drop v.pos a.script.now, c.loop-pos-test.true) in
-    let d = rw (part_to_end a.script.now v.pos) at c.step-t.ensures in
-    let g = not-false _ c.if-not-t.false in
-    let n = rw (part_to_end a.script.now v.pos) at c.record_length-pos.ensures in
-    let f = next_fits v.s v.used bs some d g in
-    omega (arith, length-drop v.pos a.script.now)
-
-pub loop-pos-smaller : goal.loop-pos-smaller
-loop-pos-smaller c =
-    let a = c.args in
-    let v = c.loop-pos in
-    let bs = drop v.pos a.script.now in
-    let some : 0 < length bs = omega (arith, length-drop v.pos a.script.now, c.loop-pos-test.true) in
-    let d = rw (part_to_end a.script.now v.pos) at c.step-t.ensures in
-    let g = not-false _ c.if-not-t.false in
-    let n = rw (part_to_end a.script.now v.pos) at c.record_length-pos.ensures in
-    let f = next_fits v.s v.used bs some d g in
-    omega (arith, length-drop v.pos a.script.now, c.loop-pos-test.true)
-
-pub loop-pos-preserved : goal.loop-pos-preserved
-loop-pos-preserved c =
-    let a = c.args in
-    let v = c.loop-pos in
-    let bs = drop v.pos a.script.now in
-    let some : 0 < length bs = omega (arith, length-drop v.pos a.script.now, c.loop-pos-test.true) in
-    let d = rw (part_to_end a.script.now v.pos) at c.step-t.ensures in
-    let g = not-false _ c.if-not-t.false in
-    let n = rw (part_to_end a.script.now v.pos) at c.record_length-pos.ensures in
-    let f = next_fits v.s v.used bs some d g in
-    let small : length v.out < 2 ^ 64 = omega arith in
-    let u = used-fits v.s v.used (first bs) v.invariant.2 in
-    let l : length c.step-t.new.s ≡ length a.s.now = search rules in (
-      l,
-      same d.puts ∙ v.invariant.1,
-      omega (arith, d.used, u, l, v.invariant.0),
-      omega (arith, length-drop v.pos a.script.now),
-      λ o r p. v.invariant.4 o r (goes_on v.s v.used bs some d small g _ n o r (rw (drop-drop c.record_length-pos.result v.pos a.script.now) p)),
-    )
-
-pub free_step-requires : goal.free_step-requires
-free_step-requires c = omega (arith, c.loop-pos.invariant.0, c.requires)
+pub loop-rest-preserved : goal.loop-rest-preserved
+loop-rest-preserved c =
+    let v = c.loop-rest in
+    let bs = v.rest.now in
+    let n = eqb-false (length bs) 0 (sym c.loop-rest-test.ensures) in
+    let d = c.step.ensures in
+    let g = sym d.goes ∙ c.if-is_err.ensures.negation in
+    let some : 0 < length bs = omega arith in
+    let k = c.record_length in
+    record {
+      words = d.does.many ∙ v.invariant.words;
+      rest = λ l₂ p. v.invariant.rest l₂ (goes_on v.m bs some d.does g k.result k.ensures l₂ (rw (part_to_end bs k.result) at p));
+    }
 
 pub returns : goal.returns
-unfolding listing_from
 returns c =
-    let v = c.loop-pos in
-    rw (drop_of_length-le c.args.script.now c.loop-pos-test.false) at v.invariant.4 _ _ c.free_step.ensures
+    let v = c.loop-rest in
+    let bs = v.rest.now in
+    let none : length bs ≡ 0 = eqb-true (length bs) 0 (sym c.loop-rest-test.ensures) in
+    v.invariant.rest _ (rw (last_line (memory_of v.m) bs none) c.free_step.ensures)

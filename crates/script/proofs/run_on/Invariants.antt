@@ -1,15 +1,17 @@
-use Prim.Native.Nat.{ℕ, ◌-◌, ◌≤◌}
 use mathlib.Core.Path.{◌≡◌}
-use mathlib.Core.List.{List}
-use lib.ListN.{length, drop}
-use Rattle.script_text.specs.Lines.{Puts}
+use lib.ListN.{length}
+use Rattle.script_text.specs.Lines.{Put}
+use Rattle.script_text.specs.declared.Lines.{Lines}
+use Rattle.script_calls.specs.Steps.{memory_of}
 use Rattle.script_step.specs.Script.{listing_from}
-use Rattle.script_calls.specs.Steps.{memory}
 use Rattle.script.proofs.run_on.Given as goal
 
-abbrev pub invariant-loop-pos : goal.invariant-loop-pos
-invariant-loop-pos l = (length l.s ≡ length l.initial.s) × (length l.out ≡ length l.initial.out) × (l.used ≤ length l.s) × (l.pos ≤ length l.script)
-    × ((o : List ℕ) (r : ℕ) → Puts l.out l.at (listing_from (length (drop l.pos l.script)) (memory l.s l.used) (drop l.pos l.script)) o r → Puts l.initial.out 0 (listing_from (length l.script) (memory l.initial.s (length l.initial.s)) l.script) o r)
+-- the lines of the records that are left make the listing
+abbrev pub invariant-loop-rest : goal.invariant-loop-rest
+invariant-loop-rest l = record {
+  words : length l.m.words.now ≡ length l.initial.m.words.now;
+  rest : (l₂ : Lines) → Put l.out (listing_from (length l.rest) (memory_of l.m) l.rest) l₂ → Put l.initial.out (listing_from (length l.script) (memory_of l.initial.m) l.script) l₂;
+}
 
-abbrev pub decreases-loop-pos : goal.decreases-loop-pos
-decreases-loop-pos l = length l.script - l.pos
+abbrev pub decreases-loop-rest : goal.decreases-loop-rest
+decreases-loop-rest l = length l.rest

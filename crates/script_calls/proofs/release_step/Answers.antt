@@ -6,4 +6,4 @@ pub returns : goal.returns
 returns c =
     let x = c.args in
     let r = c.destroy-a.ensures in
-    releases x.m.now _ x.out.now _ refl _ _ refl refl x.pivot r.answer r.words c.put_answer.ensures
+    releases x.m.now _ x.out.now _ refl _ _ c.destroy-a.auto.s refl refl x.pivot r.answer r.words c.put_answer.ensures

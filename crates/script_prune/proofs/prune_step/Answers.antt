@@ -7,4 +7,4 @@ returns c =
     let x = c.args in
     let r = c.prune_checkpoint_prefix-a.ensures in
     let e = c.copy_ids-k.ensures.is in
-    prunes x.m.now _ x.out.now _ refl _ _ refl refl x.start x.end _ (rw e at r.answer) (rw e at r.words) c.put_answer.ensures
+    prunes x.m.now _ x.out.now _ refl _ _ c.prune_checkpoint_prefix-a.auto.s refl refl x.start x.end _ (rw e at r.answer) (rw e at r.words) c.put_answer.ensures
