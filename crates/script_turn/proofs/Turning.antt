@@ -1,11 +1,11 @@
 -- A turn, from what its function does.
 use Prim.Native.Nat.{ℕ, ◌+◌, ◌≤◌, ◌<◌}
-use mathlib.Core.Path.{◌≡◌, refl, sym, ◌∙◌, ap}
+use mathlib.Core.Path.{◌≡◌, refl}
 use mathlib.Core.List.{List, [], ◌∷◌}
-use mathlib.Core.Bool.{Bool, true, false}
+use mathlib.Core.Bool.{false}
 use native.Mathlib.Omega.{arith}
 use lib.ListN.{length}
-use Rattle.std.specs.Prelude.{Result, Ok, Err, is_ok}
+use Rattle.std.specs.Prelude.{Result, is_ok}
 use Rattle.script_text.specs.declared.Lines.{Lines}
 use Rattle.script_records.specs.Records.{first}
 use Rattle.script_calls.specs.Calls.{perform}
@@ -15,7 +15,7 @@ use Rattle.script_calls.specs.declared.memory.Memory as M
 use Rattle.script_step.specs.Script.{turn}
 use Rattle.script_step.proofs.Stepping.{turn-some, turn-short}
 
-module _ {m m₁ : M.Memory} {bs : List ℕ} {l l₁ : Lines} where
+module _ {m m₁ : M.Memory} {l l₁ : Lines} (bs : List ℕ) where
   pub next : 0 < length bs → Does (perform (memory_of m) (first bs)) m l m₁ l₁ → Does (turn (memory_of m) bs) m l m₁ l₁
   next h d = rw (turn-some (memory_of m) bs h) d
 
