@@ -41,7 +41,9 @@ pub fn run_block(m: &mut Memory<'_>, bytes: &[u8], out: &mut Lines<'_>) -> Resul
     ensures sizes { (length m.new.words.now ≡ length m.old.words.now) × (length out.new.bytes.now ≡ length out.old.bytes.now) }
 {
     let mut rest = bytes;
-    while 65536 <= out.bytes.len() - out.at && let Some(len) = known_length(rest) {
+    while 65536 <= out.bytes.len() - out.at
+        && let Some(len) = known_length(rest)
+    {
         script_step::step(m, rest, out)?;
         rest = &rest[len..];
     }

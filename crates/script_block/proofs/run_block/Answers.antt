@@ -1,9 +1,9 @@
 use borrow.Author.Rules.{rules, part_to_end}
-use Prim.Native.Nat.{ℕ, ◌+◌, ◌-◌, ◌^◌, ◌≤◌, ◌<◌}
-use mathlib.Core.Path.{◌≡◌, refl, sym, ◌∙◌, ap}
-use mathlib.Core.Bool.{Bool, true, false}
+use Prim.Native.Nat.{◌+◌, ◌≤◌}
+use mathlib.Core.Path.{◌≡◌, sym, ◌∙◌, ap}
+use mathlib.Core.Bool.{true, false}
 use native.Mathlib.Omega.{arith}
-use lib.ListN.{length, drop, length-drop}
+use lib.ListN.{length}
 use Rattle.std.specs.Prelude.{Some, is_ok}
 use Rattle.std.proofs.lemmas.Result.{IfOk-from_err}
 use Rattle.script_records.specs.Records.{first}
@@ -72,7 +72,7 @@ loop-out-preserved c =
       d.puts.lent ∙ v.invariant.1,
       omega (arith, p.0, v.invariant.2),
       p.1,
-      d.size ∙ v.invariant.4,
+      d.many ∙ v.invariant.4,
       same d.puts.puts ∙ v.invariant.5,
       omega (arith, left bs fits e, v.invariant.6),
       behind bs fits e x.args.bytes.now v.invariant.6 v.invariant.7,
@@ -92,4 +92,4 @@ pub returns-in_err-step-clause-sizes : goal.returns-in_err-step-clause-sizes
 returns-in_err-step-clause-sizes c =
     let v = c.loop-out in
     let d = c.step.ensures.does in
-    (d.size ∙ v.invariant.4, same d.puts.puts ∙ v.invariant.5)
+    (d.many ∙ v.invariant.4, same d.puts.puts ∙ v.invariant.5)
