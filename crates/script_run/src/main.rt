@@ -3,164 +3,161 @@
 
 #![tactic(auto)]
 
-ghost use Rattle.std.specs.Prelude.{◌≤◌, IfSome, length};
+ghost use Rattle.std.specs.Prelude.{◌≡◌, ◌≤◌, IfOk, length};
 
-use script_block::Block;
+use script_calls::BadRecord;
+use script_calls::memory::Memory;
+use script_text::Lines;
+use std::io;
 use std::io::{Read, Write};
 use std::time::Clock;
 
-// Where the bytes that were read end, and whether they are the last.
+// The script has ended: with its input, at a bad record, or since its lines cannot be written.
 #[derive(Clone, Copy)]
-struct Input {
-    end: usize,
-    is_last: bool,
+struct End;
+
+impl From<BadRecord> for End {
+    fn from(_: BadRecord) -> End {
+        End
+    }
 }
 
-// The words in use, and where the bytes lie that were read and not taken.
-#[derive(Clone, Copy)]
-struct State {
-    used: usize,
+impl From<io::Error> for End {
+    fn from(_: io::Error) -> End {
+        End
+    }
+}
+
+// What is read, and the bytes that were read and not taken: those from `at` up to `end`.
+#[derive(Drop)]
+struct Input<'a, R> {
+    reader: &'a mut R,
+    bytes: &'a mut [u8],
     at: usize,
     end: usize,
+    ghost in_bytes: { (at ≤ end) × (end ≤ length bytes.now) × (1 ≤ length bytes.now) },
 }
 
-// The records that are known in these bytes, their lines written. A write that fails ends the script.
+impl<R: Read> Input<'_, R> {
+    // More bytes after those that are left. An input that fails is one that is cut in its next record.
+    fn read_more(&mut self, clock: &impl Clock) -> Result<(), End> {
+        let left = script_block::move_front(self.bytes, self.at, self.end);
+        self.at = 0;
+        self.end = left;
+        match script_io::read_some(clock, self.reader, &mut self.bytes[left..]) {
+            Ok(0) => Err(End),
+            Ok(count) => {
+                self.end = left + count;
+                Ok(())
+            }
+            Err(_) => {
+                self.end = left.max(1);
+                Err(End)
+            }
+        }
+    }
+}
+
+// Where the lines are written, and the bytes that they are put into before.
+#[derive(Drop)]
+struct Output<'a, W> {
+    writer: &'a mut W,
+    bytes: &'a mut [u8],
+    ghost long: { 65536 ≤ length bytes.now },
+}
+
+// The records that are known in these bytes, their lines written: how many bytes they took.
 fn run_known(
     clock: &impl Clock,
-    output: &mut impl Write,
-    words: &mut [u64],
-    used: usize,
+    m: &mut Memory<'_>,
     bytes: &[u8],
-    out: &mut [u8],
-) -> Block
-    requires { (length words.old ≤ 4096) × (used ≤ length words.old) }
-    ensures { (result.used ≤ length words.new) × (result.taken ≤ length bytes.now) }
+    output: &mut Output<'_, impl Write>,
+) -> Result<usize, End>
+    requires { length m.old.words.now ≤ 4096 }
+    ensures taken { IfOk result (λ taken. taken ≤ length bytes.now) }
+    ensures many { length m.new.words.now ≡ length m.old.words.now }
 {
-    let b = script_block::run_block(words, used, bytes, out);
-    let written = script_io::write_whole(clock, output, &out[..b.at]);
-    Block {
-        goes: b.goes && written.is_ok(),
-        ..b
-    }
-}
-
-// More bytes after those that are left. An input that fails is one that is cut in its next record.
-fn read_more(
-    clock: &impl Clock,
-    input: &mut impl Read,
-    bytes: &mut [u8],
-    at: usize,
-    end: usize,
-) -> Input
-    requires { (at ≤ end) × (end ≤ length bytes.old) × (1 ≤ length bytes.old) }
-    ensures { result.end ≤ length bytes.new }
-{
-    let left = script_block::move_front(bytes, at, end);
-    match script_io::read_some(clock, input, &mut bytes[left..]) {
-        Ok(0) => Input {
-            end: left,
-            is_last: true,
-        },
-        Ok(count) => Input {
-            end: left + count,
-            is_last: false,
-        },
-        Err(_) => Input {
-            end: left.max(1),
-            is_last: true,
-        },
-    }
+    let mut lines = Lines {
+        bytes: &mut output.bytes[..],
+        at: 0,
+    };
+    let ran = script_block::run_block(m, bytes, &mut lines);
+    let len = lines.at;
+    script_io::write_whole(clock, output.writer, &output.bytes[..len])?;
+    Ok(ran?)
 }
 
 // The last line: `free`, or `bad record` where bytes of a record are left.
-fn finish(
-    clock: &impl Clock,
-    output: &mut impl Write,
-    words: &mut [u64],
-    used: usize,
-    bytes: &[u8],
-    out: &mut [u8],
-)
-    requires in_bounds { (5 ≤ length words.old) × (length words.old ≤ 4096) × (used ≤ length words.old) }
-    requires in_bounds_2 { 65536 ≤ length out.old }
+fn finish(clock: &impl Clock, m: &mut Memory<'_>, bytes: &[u8], output: &mut Output<'_, impl Write>)
+    requires { (5 ≤ length m.old.words.now) × (length m.old.words.now ≤ 4096) }
+    ensures { length m.new.words.now ≡ length m.old.words.now }
 {
-    let t = script_turn::turn_step(words, used, bytes, out);
-    let _ = script_io::write_whole(clock, output, &out[..t.at]);
+    let mut lines = Lines {
+        bytes: &mut output.bytes[..],
+        at: 0,
+    };
+    let _ = script_turn::turn_step(m, bytes, &mut lines);
+    let len = lines.at;
+    let _ = script_io::write_whole(clock, output.writer, &output.bytes[..len]);
 }
 
-// The known records of the bytes that were read; where there is none, more bytes. None at the end of the script.
-fn turn(
+// The known records of the bytes that were read; where there is none, more bytes.
+fn turn<R: Read>(
     clock: &impl Clock,
-    input: &mut impl Read,
-    output: &mut impl Write,
-    words: &mut [u64],
-    state: State,
-    bytes: &mut [u8],
-    out: &mut [u8],
-) -> Option<State>
-    requires in_bounds { (5 ≤ length words.old) × (length words.old ≤ 4096) × (state.used ≤ length words.old) }
-    requires at_le_end { (state.at ≤ state.end) × (state.end ≤ length bytes.old) × (1 ≤ length bytes.old) × (65536 ≤ length out.old) }
-    ensures { IfSome result (λ s. (s.used ≤ length words.new) × (s.at ≤ s.end) × (s.end ≤ length bytes.new)) }
+    m: &mut Memory<'_>,
+    input: &mut Input<'_, R>,
+    output: &mut Output<'_, impl Write>,
+) -> Result<(), End>
+    requires { (5 ≤ length m.old.words.now) × (length m.old.words.now ≤ 4096) }
+    ensures { length m.new.words.now ≡ length m.old.words.now }
 {
-    let State { used, at, end } = state;
-    let b = run_known(clock, output, words, used, &bytes[at..end], out);
-    if !b.goes {
-        return None;
+    let taken = run_known(clock, m, &input.bytes[input.at..input.end], output)?;
+    if 0 < taken {
+        input.at += taken;
+        return Ok(());
     }
-    if 0 < b.taken {
-        return Some(State {
-            used: b.used,
-            at: at + b.taken,
-            end,
-        });
+    let more = input.read_more(clock);
+    if more.is_err() {
+        finish(clock, m, &input.bytes[..input.end], output);
     }
-    let more = read_more(clock, input, bytes, at, end);
-    if more.is_last {
-        finish(clock, output, words, b.used, &bytes[..more.end], out);
-        return None;
-    }
-    Some(State {
-        used: b.used,
-        at: 0,
-        end: more.end,
-    })
+    more
 }
 
 // A proved loop has to end, and nothing says that the input does: the turns are counted up to a number that no run reaches.
-fn run(
+fn run<R: Read>(
     clock: &impl Clock,
-    input: &mut impl Read,
-    output: &mut impl Write,
-    words: &mut [u64],
-    bytes: &mut [u8],
-    out: &mut [u8],
+    m: &mut Memory<'_>,
+    input: &mut Input<'_, R>,
+    output: &mut Output<'_, impl Write>,
 )
-    requires in_bounds { (5 ≤ length words.old) × (length words.old ≤ 4096) }
-    requires in_bounds_2 { (1 ≤ length bytes.old) × (65536 ≤ length out.old) }
+    requires { (5 ≤ length m.old.words.now) × (length m.old.words.now ≤ 4096) }
 {
-    let mut state = State {
-        used: words.len(),
-        at: 0,
-        end: 0,
-    };
     for _ in 0..u64::MAX {
-        match turn(clock, input, output, words, state, bytes, out) {
-            Some(next) => state = next,
-            None => return,
+        if turn(clock, m, input, output).is_err() {
+            return;
         }
     }
 }
 
 fn main(rt: HostRuntime) {
     let mut words = [0u64; 4096];
-    let mut bytes = io::large_buffer();
+    let mut bytes = [0u8; 65536];
     let mut out = [0u8; 131072];
-    run(
-        &rt,
-        &mut rt.stdin(),
-        &mut rt.stdout(),
-        &mut words,
-        &mut bytes,
-        &mut out,
-    );
+    let mut stdin = rt.stdin();
+    let mut stdout = rt.stdout();
+    let mut m = Memory {
+        words: &mut words,
+        used: 4096,
+    };
+    let mut input = Input {
+        reader: &mut stdin,
+        bytes: &mut bytes,
+        at: 0,
+        end: 0,
+    };
+    let mut output = Output {
+        writer: &mut stdout,
+        bytes: &mut out,
+    };
+    run(&rt, &mut m, &mut input, &mut output);
 }
