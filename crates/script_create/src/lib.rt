@@ -32,13 +32,7 @@ pub fn create_length(all: usize, capacity: u64, nodes: u64) -> usize
 }
 
 // An accepted create says how many words later calls get.
-pub fn create_step(
-    m: &mut Memory<'_>,
-    capacity: u64,
-    nodes: u64,
-    start: u64,
-    out: &mut Lines<'_>,
-)
+pub fn create_step(m: &mut Memory<'_>, capacity: u64, nodes: u64, start: u64, out: &mut Lines<'_>)
     ensures { Does (perform (memory_of m.old) (R.Create capacity nodes start)) m.old out.old m.new out.new }
 {
     let len = create_length(m.words.len(), capacity, nodes);

@@ -1,5 +1,5 @@
 -- A walk put step by step.
-use Prim.Native.Nat.{ℕ, suc, ◌/◌, ◌^◌, ◌<◌}
+use Prim.Native.Nat.{ℕ, suc, ◌/◌}
 use mathlib.Core.Path.{◌≡◌, sym, ◌∙◌, ap}
 use mathlib.Core.List.{List, append-nil}
 use mathlib.Core.Bool.{Bool, true, false}

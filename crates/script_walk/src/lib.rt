@@ -19,7 +19,7 @@ fn walk_on(s: &[u64], cursor: RowPageIndexMemCursor, list: &mut [u64], out: &mut
     ensures { Put out.old (walk_lines s.now (length s.now + 1) cursor) out.new }
 {
     let mut c = cursor;
-    loop {
+    'leaves: loop {
         let step = next_words::next_words(s, c, list);
         answer_line::put_answer(out, b"leaf", b"end", step.answer);
         if !next_words::gives_leaf(step.answer) {

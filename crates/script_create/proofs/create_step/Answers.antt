@@ -12,6 +12,6 @@ returns c =
     let a = c.new-a.result in
     let e = sym c.is_ok.ensures.value in
     elim c.if-is_ok.branch [
-      then-is_ok w ↦ rw w.m-is (creates x.m.now _ x.out.now _ refl _ _ x.capacity x.nodes x.start n.result c.new-a.auto.s n.ensures.is r.answer r.words refl (done a n.result x.m.now.used (e ∙ w.if-is_ok.true)) c.put_answer.ensures)
-    | else-is_ok w ↦ rw w.m-is (creates x.m.now _ x.out.now _ refl _ _ x.capacity x.nodes x.start n.result c.new-a.auto.s n.ensures.is r.answer r.words refl (not_done a n.result x.m.now.used (e ∙ w.if-is_ok.false)) c.put_answer.ensures)
+      | then-is_ok w ↦ rw w.m-is (creates x.m.now _ x.out.now _ refl _ _ x.capacity x.nodes x.start n.result c.new-a.auto.s n.ensures.is r.answer r.words refl (done a n.result x.m.now.used (e ∙ w.if-is_ok.true)) c.put_answer.ensures)
+      | else-is_ok w ↦ rw w.m-is (creates x.m.now _ x.out.now _ refl _ _ x.capacity x.nodes x.start n.result c.new-a.auto.s n.ensures.is r.answer r.words refl (not_done a n.result x.m.now.used (e ∙ w.if-is_ok.false)) c.put_answer.ensures)
     ]
