@@ -8,9 +8,7 @@ pub mod single;
 
 ghost use Rattle.std.specs.Prelude.{◌+◌, ◌≤◌, length};
 
-const STDIN_FILENO: i32 = 0;
-
-const STDOUT_FILENO: i32 = 1;
+use std::io;
 
 // What the bytes hold before a call; no listing has this byte.
 const MARK: u8 = 255;
@@ -49,95 +47,108 @@ fn try_prefixes(script: &[u8], a: &mut [u8], b: &mut [u8]) -> Tally
     Tally { bad, different }
 }
 
-// An output of this length, the first bytes of out, all of which hold the mark: the bytes that fit are the listing's, those
-// after them are as they were, and the whole length is returned.
-fn is_right(script: &[u8], listing: &[u8], whole: usize, out: &mut [u8], len: usize) -> bool
-    requires { len ≤ length out.old }
-{
-    let n = script::row_page_script(script, &mut out[..len]);
-    let k = listing.len().min(len);
-    n == whole && out[..k] == listing[..k] && out[k..].iter().all(|&byte| byte == MARK)
+// A script's listing, and its length, which is more where not all bytes had room.
+#[derive(Clone, Copy)]
+struct Listed<'a> {
+    script: &'a [u8],
+    listing: &'a [u8],
+    whole: usize,
 }
 
-fn try_length(script: &[u8], listing: &[u8], whole: usize, len: usize) -> bool
-    requires { len ≤ 65536 }
-{
-    let mut out = [MARK; 65536];
-    is_right(script, listing, whole, &mut out, len)
-}
-
-// How many lengths from one to below another are wrong.
-fn try_lengths(script: &[u8], listing: &[u8], whole: usize, from: usize, to: usize) -> u64
-    requires { to ≤ 65537 }
-{
-    let mut wrong: u64 = 0;
-    for len in from..to {
-        wrong += u64::from(!try_length(script, listing, whole, len));
+impl Listed<'_> {
+    // An output of this length, the first bytes of out, all of which hold the mark: the bytes that fit are the listing's,
+    // those after them are as they were, and the whole length is returned.
+    fn is_right(self, out: &mut [u8], len: usize) -> bool
+        requires { len ≤ length out.old }
+    {
+        let n = script::row_page_script(self.script, &mut out[..len]);
+        let k = self.listing.len().min(len);
+        n == self.whole
+            && out[..k] == self.listing[..k]
+            && out[k..].iter().all(|&byte| byte == MARK)
     }
-    wrong
+
+    fn is_right_at(self, len: usize) -> bool
+        requires { len ≤ 65536 }
+    {
+        let mut out = [MARK; 65536];
+        self.is_right(&mut out, len)
+    }
+
+    // How many lengths from one to below another are wrong.
+    fn count_wrong(self, from: usize, to: usize) -> u64
+        requires { to ≤ 65537 }
+    {
+        let mut wrong: u64 = 0;
+        for len in from..to {
+            wrong += u64::from(!self.is_right_at(len));
+        }
+        wrong
+    }
+
+    fn report(self, rt: &impl Print) -> io::Result<()>
+        requires { length self.listing.now ≤ 65536 }
+    {
+        let n = self.listing.len();
+        println!(rt; "lengths {}", n + 1)?;
+        println!(rt; "wrong {}", self.count_wrong(0, n + 1))?;
+        rt.write_all(self.listing)?;
+        let more = (65536 - n).min(40);
+        println!(rt; "longer {more}")?;
+        println!(rt; "wrong {}", self.count_wrong(n + 1, n + 1 + more))
+    }
 }
 
-// A line of a word and a number.
-fn print_count(word: &[u8], n: u64) {
-    io::write_all(STDOUT_FILENO, word);
-    io::write_all(STDOUT_FILENO, b" ");
-    io::print_decimal(STDOUT_FILENO, n);
-    io::write_all(STDOUT_FILENO, b"\n");
-}
-
-fn report_prefixes(script: &[u8], a: &mut [u8], b: &mut [u8])
+fn report_prefixes(rt: &impl Print, script: &[u8], a: &mut [u8], b: &mut [u8]) -> io::Result<()>
     requires { length script.now ≤ 65536 }
 {
     let t = try_prefixes(script, a, b);
-    print_count(b"prefixes", script.len() as u64 + 1);
-    print_count(b"bad record", t.bad);
-    print_count(b"different", t.different);
+    println!(rt; "prefixes {}", script.len() + 1)?;
+    println!(rt; "bad record {}", t.bad)?;
+    println!(rt; "different {}", t.different)
 }
 
-fn report_lengths(script: &[u8], listing: &[u8], whole: usize)
-    requires { length listing.now ≤ 65536 }
-{
-    let n = listing.len();
-    let wrong = try_lengths(script, listing, whole, 0, n + 1);
-    print_count(b"lengths", n as u64 + 1);
-    print_count(b"wrong", wrong);
-    io::write_all(STDOUT_FILENO, listing);
-    let more = (65536 - n).min(40);
-    let wrong = try_lengths(script, listing, whole, n + 1, n + 1 + more);
-    print_count(b"longer", more as u64);
-    print_count(b"wrong", wrong);
-}
-
-fn report(script: &[u8], a: &mut [u8], b: &mut [u8])
+fn report(rt: &impl Print, script: &[u8], a: &mut [u8], b: &mut [u8]) -> io::Result<()>
     requires { (length script.now ≤ 65536) × (length b.old ≤ 65536) }
 {
-    report_prefixes(script, a, b);
+    report_prefixes(rt, script, a, b)?;
     let whole = single::list(script, b);
-    let n = whole.min(b.len());
-    report_lengths(script, &b[..n], whole);
+    let listing = &b[..whole.min(b.len())];
+    let listed = Listed {
+        script,
+        listing,
+        whole,
+    };
+    listed.report(rt)
+}
+
+// The script that the bytes begin with, after its length, and what follows it.
+fn split_script(bytes: &[u8]) -> Option<(&[u8], &[u8])>
+{
+    if bytes.len() < 4 {
+        return None;
+    }
+    let len = script_records::read_u32(bytes, 0) as usize;
+    bytes[4..].split_at_checked(len)
 }
 
 // Each script of the input, and how many bytes are left after the last.
-fn report_all(input: &[u8], a: &mut [u8], b: &mut [u8])
+fn report_all(rt: &impl Print, input: &[u8], a: &mut [u8], b: &mut [u8]) -> io::Result<()>
     requires { (length input.now ≤ 65536) × (length b.old ≤ 65536) }
 {
     let mut rest = input;
-    while 4 <= rest.len() {
-        let len = script_records::read_u32(rest, 0) as usize;
-        if rest.len() - 4 < len {
-            break;
-        }
-        let (script, after) = rest[4..].split_at(len);
-        report(script, a, b);
+    while let Some((script, after)) = split_script(rest) {
+        report(rt, script, a, b)?;
         rest = after;
     }
-    print_count(b"left", rest.len() as u64);
+    println!(rt; "left {}", rest.len())
 }
 
-fn main() {
-    let mut input = io::large_buffer();
-    let mut a = io::large_buffer();
-    let mut b = io::large_buffer();
-    let n = io::read_full(STDIN_FILENO, &mut input);
-    report_all(&input[..n], &mut a, &mut b);
+// A write that fails ends the run with nothing after it; no status says so.
+fn main(rt: HostRuntime) {
+    let mut input = [0u8; 65536];
+    let mut a = [0u8; 65536];
+    let mut b = [0u8; 65536];
+    let n = script_input::read_full(&mut rt.stdin(), &mut input);
+    let _ = report_all(&rt, &input[..n], &mut a, &mut b);
 }

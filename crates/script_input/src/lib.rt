@@ -26,7 +26,7 @@ pub fn announced(bytes: &[u8]) -> usize
 
 // Bytes up to the end of the buffer or of the input: how many. A read that fails counts as the end, and those before it stay,
 // which read_exact would not say.
-fn read_full(input: &mut impl Read, buffer: &mut [u8]) -> usize
+pub fn read_full(input: &mut impl Read, buffer: &mut [u8]) -> usize
     ensures { result ≤ length buffer.new }
 {
     let mut len: usize = 0;

@@ -1,9 +1,10 @@
-use Prim.Native.Nat.{◌-◌, ◌≤◌}
+use Prim.Native.Nat.{◌≤◌}
+use mathlib.Core.Path.{◌≡◌}
 use lib.ListN.{length}
 use Rattle.script_both.proofs.single.list_blocks.Given as goal
 
-abbrev pub invariant-loop-taken : goal.invariant-loop-taken
-invariant-loop-taken l = (l.used ≤ length l.words) × (l.taken ≤ length l.script)
+abbrev pub invariant-loop-m : goal.invariant-loop-m
+invariant-loop-m l = length l.m.words.now ≡ length l.fn.m.words.now
 
-abbrev pub decreases-loop-taken : goal.decreases-loop-taken
-decreases-loop-taken l = length l.script - l.taken
+abbrev pub decreases-loop-m : goal.decreases-loop-m
+decreases-loop-m l = length l.rest
