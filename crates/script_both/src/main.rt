@@ -6,7 +6,7 @@
 
 pub mod single;
 
-ghost use Rattle.std.specs.Prelude.{◌+◌, ◌≤◌, length};
+ghost use Rattle.std.specs.Prelude.{◌≡◌, ◌+◌, ◌≤◌, IfSome, length};
 
 use std::io;
 
@@ -124,6 +124,7 @@ fn report(rt: &impl Print, script: &[u8], a: &mut [u8], b: &mut [u8]) -> io::Res
 
 // The script that the bytes begin with, after its length, and what follows it.
 fn split_script(bytes: &[u8]) -> Option<(&[u8], &[u8])>
+    ensures { IfSome result (λ parts. length parts.0.now + length parts.1.now + 4 ≡ length bytes.now) }
 {
     if bytes.len() < 4 {
         return None;
