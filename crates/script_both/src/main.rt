@@ -13,6 +13,13 @@ use std::io;
 // What the bytes hold before a call; no listing has this byte.
 const MARK: u8 = 255;
 
+// What was put of a listing of this length.
+fn put_of(out: &[u8], len: usize) -> &[u8]
+    ensures { length result.now ≤ length out.now }
+{
+    &out[..len.min(out.len())]
+}
+
 // How many prefixes end with `bad record`, and on how many the two listings differ.
 #[derive(Clone, Copy)]
 struct Tally {
@@ -20,31 +27,61 @@ struct Tally {
     different: u64,
 }
 
-// One prefix: the listings go into a and b.
-fn try_prefix(script: &[u8], a: &mut [u8], b: &mut [u8]) -> Tally
-    ensures { (result.bad ≤ 1) × (result.different ≤ 1) }
-{
-    let n = script::row_page_script(script, a);
-    let m = single::list(script, b);
-    let a = &a[..n.min(a.len())];
-    let b = &b[..m.min(b.len())];
-    Tally {
-        bad: u64::from(a.ends_with(b"bad record\n")),
-        different: u64::from(n != m || a != b),
-    }
+// Of one prefix.
+#[derive(Clone, Copy)]
+struct Compared {
+    is_bad: bool,
+    is_different: bool,
 }
 
-fn try_prefixes(script: &[u8], a: &mut [u8], b: &mut [u8]) -> Tally
-    requires { length script.now ≤ 65536 }
-{
-    let mut bad: u64 = 0;
-    let mut different: u64 = 0;
-    for k in 0..=script.len() {
-        let t = try_prefix(&script[..k], a, b);
-        bad += t.bad;
-        different += t.different;
+// Where the two listings of a script go.
+#[derive(Drop)]
+struct Outputs<'a> {
+    whole: &'a mut [u8],
+    blocks: &'a mut [u8],
+    ghost short: { length blocks.now ≤ 65536 },
+}
+
+impl Outputs<'_> {
+    fn compare(&mut self, script: &[u8]) -> Compared {
+        let n = script::row_page_script(script, self.whole);
+        let m = single::list(script, self.blocks);
+        let a = put_of(self.whole, n);
+        let b = put_of(self.blocks, m);
+        Compared {
+            is_bad: a.ends_with(b"bad record\n"),
+            is_different: n != m || a != b,
+        }
     }
-    Tally { bad, different }
+
+    fn compare_prefixes(&mut self, script: &[u8]) -> Tally
+        requires { length script.now ≤ 65536 }
+    {
+        let mut bad: u64 = 0;
+        let mut different: u64 = 0;
+        for k in 0..=script.len() {
+            let compared = self.compare(&script[..k]);
+            bad += u64::from(compared.is_bad);
+            different += u64::from(compared.is_different);
+        }
+        Tally { bad, different }
+    }
+
+    fn report(&mut self, rt: &impl Print, script: &[u8]) -> io::Result<()>
+        requires { length script.now ≤ 65536 }
+    {
+        let tally = self.compare_prefixes(script);
+        println!(rt; "prefixes {}", script.len() + 1)?;
+        println!(rt; "bad record {}", tally.bad)?;
+        println!(rt; "different {}", tally.different)?;
+        let whole = single::list(script, self.blocks);
+        let listed = Listed {
+            script,
+            listing: put_of(self.blocks, whole),
+            whole,
+        };
+        listed.report(rt)
+    }
 }
 
 // A script's listing, and its length, which is more where not all bytes had room.
@@ -99,29 +136,6 @@ impl Listed<'_> {
     }
 }
 
-fn report_prefixes(rt: &impl Print, script: &[u8], a: &mut [u8], b: &mut [u8]) -> io::Result<()>
-    requires { length script.now ≤ 65536 }
-{
-    let t = try_prefixes(script, a, b);
-    println!(rt; "prefixes {}", script.len() + 1)?;
-    println!(rt; "bad record {}", t.bad)?;
-    println!(rt; "different {}", t.different)
-}
-
-fn report(rt: &impl Print, script: &[u8], a: &mut [u8], b: &mut [u8]) -> io::Result<()>
-    requires { (length script.now ≤ 65536) × (length b.old ≤ 65536) }
-{
-    report_prefixes(rt, script, a, b)?;
-    let whole = single::list(script, b);
-    let listing = &b[..whole.min(b.len())];
-    let listed = Listed {
-        script,
-        listing,
-        whole,
-    };
-    listed.report(rt)
-}
-
 // The script that the bytes begin with, after its length, and what follows it.
 fn split_script(bytes: &[u8]) -> Option<(&[u8], &[u8])>
     ensures { IfSome result (λ parts. length parts.0.now + length parts.1.now + 4 ≡ length bytes.now) }
@@ -134,12 +148,12 @@ fn split_script(bytes: &[u8]) -> Option<(&[u8], &[u8])>
 }
 
 // Each script of the input, and how many bytes are left after the last.
-fn report_all(rt: &impl Print, input: &[u8], a: &mut [u8], b: &mut [u8]) -> io::Result<()>
-    requires { (length input.now ≤ 65536) × (length b.old ≤ 65536) }
+fn report_all(rt: &impl Print, input: &[u8], outputs: &mut Outputs<'_>) -> io::Result<()>
+    requires { length input.now ≤ 65536 }
 {
     let mut rest = input;
     while let Some((script, after)) = split_script(rest) {
-        report(rt, script, a, b)?;
+        outputs.report(rt, script)?;
         rest = after;
     }
     println!(rt; "left {}", rest.len())
@@ -148,8 +162,12 @@ fn report_all(rt: &impl Print, input: &[u8], a: &mut [u8], b: &mut [u8]) -> io::
 // A write that fails ends the run with nothing after it; no status says so.
 fn main(rt: HostRuntime) {
     let mut input = [0u8; 65536];
-    let mut a = [0u8; 65536];
-    let mut b = [0u8; 65536];
+    let mut whole = [0u8; 65536];
+    let mut blocks = [0u8; 65536];
     let n = script_input::read_full(&mut rt.stdin(), &mut input);
-    let _ = report_all(&rt, &input[..n], &mut a, &mut b);
+    let mut outputs = Outputs {
+        whole: &mut whole,
+        blocks: &mut blocks,
+    };
+    let _ = report_all(&rt, &input[..n], &mut outputs);
 }
