@@ -113,14 +113,10 @@ impl Listed<'_> {
     }
 
     // How many lengths from one to below another are wrong.
-    fn count_wrong(self, from: usize, to: usize) -> u64
+    fn count_wrong(self, from: usize, to: usize) -> usize
         requires { to ≤ 65537 }
     {
-        let mut wrong: u64 = 0;
-        for len in from..to {
-            wrong += u64::from(!self.is_right_at(len));
-        }
-        wrong
+        (from..to).filter(|&len| !self.is_right_at(len)).count()
     }
 
     fn report(self, rt: &impl Print) -> io::Result<()>
