@@ -49,6 +49,10 @@ one_out o at r b h e = record { is = sym (fill-out o at (b ∷ []) h); place = e
 pub same : {o o₁ : List ℕ} {at r : ℕ} {xs : List ℕ} → Puts o at xs o₁ r → length o₁ ≡ length o
 same {o} {o₁} {at} {r} {xs} p = ap length p.is ∙ length-fill o at xs
 
+-- what the bytes are after it, found another way
+pub is_also : {o o₁ o₂ : List ℕ} {at r : ℕ} {xs : List ℕ} → o₂ ≡ o₁ → Puts o at xs o₁ r → Puts o at xs o₂ r
+is_also e p = record { is = e ∙ p.is; place = p.place }
+
 -- Lines that are put -------------------------------------------------------------------------------------
 
 pub none : (l : Lines) → l.at < 2 ^ 64 → Put l [] l

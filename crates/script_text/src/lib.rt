@@ -13,7 +13,7 @@ pub struct Lines<'a> {
 }
 
 impl Lines<'_> {
-    ghost use Rattle.script_text.specs.Lines.{Put, decimal, line, numbers, newline, space};
+    ghost use Rattle.script_text.specs.Lines.{Put, Puts, decimal, line, numbers, newline, space};
 
     // One byte.
     #[tactic(auto, using(crate::proofs::Putting::one_in, crate::proofs::Putting::one_out))]
@@ -63,12 +63,23 @@ impl Lines<'_> {
         }
     }
 
+    // A line put at a place: the place after it. The place is a local until the line's end: behind a reference it would be
+    // stored and read again for each byte.
+    #[inline(never)]
+    fn line_at(bytes: &mut [u8], at: usize, word: &[u8], list: &[u64]) -> usize
+        ensures { Puts bytes.old at (line word.now list.now) bytes.new result }
+    {
+        let mut l = Lines { bytes, at };
+        l.put_bytes(word);
+        l.put_numbers(list);
+        l.put_byte(b'\n');
+        l.at
+    }
+
     // A line of a word and these numbers.
     pub fn put_line(&mut self, word: &[u8], list: &[u64])
         ensures { Put self.old (line word.now list.now) self.new }
     {
-        self.put_bytes(word);
-        self.put_numbers(list);
-        self.put_byte(b'\n');
+        self.at = Self::line_at(self.bytes, self.at, word, list);
     }
 }
