@@ -54,6 +54,7 @@ impl Outputs<'_> {
         }
     }
 
+    // A loop: a chain would compare each prefix twice, once for each count.
     fn compare_prefixes(&mut self, script: &[u8]) -> Tally
         requires { length script.now ≤ 65536 }
     {

@@ -29,15 +29,16 @@ pub fn announced(bytes: &[u8]) -> usize
 pub fn read_full(input: &mut impl Read, buffer: &mut [u8]) -> usize
     ensures { result ≤ length buffer.new }
 {
-    let mut len: usize = 0;
-    while len < buffer.len() {
-        let count = input.read(&mut buffer[len..]).unwrap_or(0);
+    let all = buffer.len();
+    let mut rest = buffer;
+    while !rest.is_empty() {
+        let count = input.read(rest).unwrap_or(0);
         if count == 0 {
             break;
         }
-        len += count;
+        rest = &mut rest[count..];
     }
-    len
+    all - rest.len()
 }
 
 // The bytes of the next record, or those that came of it where the input ends in it; none at the end of the input.

@@ -1,8 +1,8 @@
-use Rattle.std.proofs.Common.{◌-◌, ◌≤◌, length}
+use Rattle.std.proofs.Common.{◌≤◌, length}
 use Rattle.script_input.proofs.read_full.Given as goal
 
-abbrev pub invariant-loop-len : goal.invariant-loop-len
-invariant-loop-len g l = l.len ≤ length l.buffer
+abbrev pub invariant-loop-input : goal.invariant-loop-input
+invariant-loop-input g l = length l.rest ≤ l.all
 
-abbrev pub decreases-loop-len : goal.decreases-loop-len
-decreases-loop-len g l = length l.initial.buffer - l.len
+abbrev pub decreases-loop-input : goal.decreases-loop-input
+decreases-loop-input g l = length l.rest
