@@ -63,8 +63,8 @@ impl Lines<'_> {
         }
     }
 
-    // A line put at a place: the place after it. The place is a local until the line's end: behind a reference it would be
-    // stored and read again for each byte.
+    // A line put at a place: the place after it. It goes by value and into no caller, so that this `Lines` and a caller's are
+    // locals: behind a reference the place would be stored for each byte and read for the next.
     #[inline(never)]
     fn line_at(bytes: &mut [u8], at: usize, word: &[u8], list: &[u64]) -> usize
         ensures { Puts bytes.old at (line word.now list.now) bytes.new result }

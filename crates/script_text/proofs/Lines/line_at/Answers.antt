@@ -1,5 +1,4 @@
 use borrow.Author.Rules.{rules}
-use mathlib.Core.Path.{refl}
 use Rattle.script_text.proofs.Putting.{is_also, line_put}
 use Rattle.script_text.proofs.Lines.line_at.Goals as goal
 
