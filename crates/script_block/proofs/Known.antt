@@ -1,13 +1,15 @@
 -- A record that is known, the listing after it, and lines put where they have room.
-use Prim.Native.Nat.{ℕ, ◌+◌, ◌^◌, ◌≤◌, ◌<◌}
+use Prim.Native.Nat.{ℕ, ◌+◌, ◌-◌, ◌^◌, ◌≤◌, ◌<◌}
 use mathlib.Core.Path.{◌≡◌, refl, sym, ◌∙◌, ap}
 use mathlib.Core.List.{List, [], ◌++◌, append-nil, append_assoc}
 use mathlib.Core.Bool.{Bool, true, false, ◌&&◌}
 use native.Mathlib.Omega.{arith}
 use lib.Dec.{leb, ltb}
 use lib.ListN.{length, take, drop, length-append, length-drop, take-append-drop}
-use lib.Seq.{take-append-le, drop-append-le, take_at, length-take-le}
-use borrow.Author.Tests.{le-leb, lt-leb, lt-ltb, le-ltb, leb-true, ltb-true, ltb-false}
+use Rattle.std.proofs.lemmas.List.{drop-take}
+use lib.Seq.{take-append-le, drop-append-le, take_at, length-take-le, drop-drop}
+use borrow.Author.Tests.{le-leb, lt-leb, le-ltb, leb-true, ltb-true, ltb-false}
+use Rattle.std.specs.Prelude.{Option, Some, None, Result, Ok, Err, OnErr}
 use Rattle.model.specs.Words.{fill}
 use Rattle.model.proofs.Tests.{by_test}
 use Rattle.model.proofs.Fill.{fill-append, fill_is}
@@ -16,11 +18,12 @@ use Rattle.script_text.proofs.Putting.{same}
 use Rattle.script_records.specs.Records.{body_length, whole, first}
 use Rattle.script_records.proofs.Heads.{within}
 use Rattle.script_calls.specs.Calls.{Memory, perform}
-use Rattle.script_calls.specs.Steps.{memory, Does}
-use Rattle.script_calls.specs.declared.Progress.{Progress}
+use Rattle.script_calls.specs.Steps.{memory_of, Does}
+use Rattle.script_text.specs.declared.Lines.{Lines}
+use Rattle.script_calls.specs.declared.memory.Memory as M
 use Rattle.script_step.specs.Script.{turn}
 use Rattle.script_step.proofs.Stepping.{goes-whole, turns, turn-some, turn-short}
-use Rattle.script_block.specs.Blocks.{known_length, is_known, listing_on}
+use Rattle.script_block.specs.Blocks.{known_length, is_known, listing_on, put_since}
 
 -- The first record, with bytes after it --------------------------------------------------------------------------
 
@@ -49,77 +52,66 @@ module _ (bs more : List ℕ) where
       rw (same_length four, same_body h, le-leb 4 (length (bs ++ more)) a, le-leb 4 (length bs) four, le-leb (body_length bs) 4096 l, le-leb (4 + body_length bs) (length (bs ++ more)) b, le-leb (4 + body_length bs) (length bs) h)
 
 -- what a known length says of the bytes
-pub record Known (bs : List ℕ) : Type 0 where
+pub record Known (bs : List ℕ) (n : ℕ) : Type 0 where
   pub four : 4 ≤ length bs
-  pub some : 4 ≤ known_length bs
+  pub some : 4 ≤ n
   pub first : (more : List ℕ) → first (bs ++ more) ≡ first bs
 
-pub known : (bs : List ℕ) → 0 < known_length bs → Known bs
+pub known : (bs : List ℕ) (n : ℕ) → known_length bs ≡ Some n → Known bs n
 unfolding known_length
-known bs h =
+known bs n h =
     by_test (leb 4 (length bs))
     (λ t.
     let four = leb-true 4 (length bs) t in
     by_test (ltb 4096 (body_length bs))
-    (λ u. record { four = four; some = rw (t, u) (omega arith); first = λ more. long-first bs more four (ltb-true 4096 (body_length bs) u) })
+    (λ u.
+    let e : Some 4 ≡ Some n = rw (t, u) at h in
+    let is : 4 ≡ n = cc in
+    record { four = four; some = omega arith; first = λ more. long-first bs more four (ltb-true 4096 (body_length bs) u) })
     (λ u.
     by_test (leb (4 + body_length bs) (length bs))
-    (λ v. record { four = four; some = rw (t, u, v) (omega arith); first = λ more. whole-first bs more (leb-true (4 + body_length bs) (length bs) v) (ltb-false 4096 (body_length bs) u) })
-    (λ v. let z : 0 < 0 = rw (t, u, v) at h in absurd (omega arith))))
-    (λ t. let z : 0 < 0 = rw t at h in absurd (omega arith))
+    (λ v.
+    let e : Some (4 + body_length bs) ≡ Some n = rw (t, u, v) at h in
+    let is : 4 + body_length bs ≡ n = cc in
+    record { four = four; some = omega arith; first = λ more. whole-first bs more (leb-true (4 + body_length bs) (length bs) v) (ltb-false 4096 (body_length bs) u) })
+    (λ v. let z : ◌≡◌ {A = Option ℕ} None (Some n) = rw (t, u, v) at h in (cc))))
+    (λ t. let z : ◌≡◌ {A = Option ℕ} None (Some n) = rw t at h in (cc))
 
 -- a whole record is as long as its known length
-pub whole-known : (bs : List ℕ) → whole bs ≡ true → known_length bs ≡ 4 + body_length bs
+pub whole-known : (bs : List ℕ) → whole bs ≡ true → known_length bs ≡ Some (4 + body_length bs)
 unfolding known_length
 whole-known bs w =
     let i = within bs w in
     rw (le-leb 4 (length bs) (omega arith), le-ltb 4096 (body_length bs) i.0, le-leb (4 + body_length bs) (length bs) i.1)
 
--- The cases of known_length ------------------------------------------------------------------------------------
-
-module _ (bs : List ℕ) where
-  pub too_few : length bs < 4 → 0 ≡ known_length bs
-  unfolding known_length
-  too_few h = rw (lt-leb 4 (length bs) h)
-
-  module _ (n : ℕ) (four : 4 ≤ length bs) (is : n ≡ body_length bs) where
-    pub too_long : 4096 < n → 4 ≡ known_length bs
-    unfolding known_length
-    too_long h = rw (le-leb 4 (length bs) four, lt-ltb 4096 (body_length bs) (omega arith))
-
-    pub is_cut : n ≤ 4096 → length bs < 4 + n → 0 ≡ known_length bs
-    unfolding known_length
-    is_cut h l = rw (le-leb 4 (length bs) four, le-ltb 4096 (body_length bs) (omega arith), lt-leb (4 + body_length bs) (length bs) (omega arith))
-
-    pub is_all : n ≤ 4096 → 4 + n ≤ length bs → 4 + n ≡ known_length bs
-    unfolding known_length
-    is_all h l = rw (le-leb 4 (length bs) four, le-ltb 4096 (body_length bs) (omega arith), le-leb (4 + body_length bs) (length bs) (omega arith)) (omega arith)
-
 -- The listing, with a known record first ----------------------------------------------------------------------
 
-module _ (m : Memory) (bs : List ℕ) (h : 0 < known_length bs) where
+module _ (m : Memory) (bs : List ℕ) (n : ℕ) (h : known_length bs ≡ Some n) where
   turn_is : (more : List ℕ) → turn m (bs ++ more) ≡ perform m (first bs)
   turn_is more =
-      let k = known bs h in
+      let k = known bs n h in
       turn-some m (bs ++ more) (omega (arith, length-append bs more, k.four)) ∙ ap (perform m) (k.first more)
 
   pub last_record : (perform m (first bs)).goes ≡ false → (more : List ℕ) → listing_on m (bs ++ more) ≡ (perform m (first bs)).lines
   last_record g more = turns m (bs ++ more) ∙ rw (turn_is more, g) (append-nil (perform m (first bs)).lines)
 
-  pub next_record : (perform m (first bs)).goes ≡ true → (more : List ℕ) → listing_on m (bs ++ more) ≡ (perform m (first bs)).lines ++ listing_on (perform m (first bs)).memory (drop (known_length bs) bs ++ more)
+  pub all-known : (perform m (first bs)).goes ≡ true → n ≡ 4 + body_length bs
+  all-known g =
+      let e : Some n ≡ Some (4 + body_length bs) = sym h ∙ whole-known bs (goes-whole m bs g) in (cc)
+
+  pub next_record : (perform m (first bs)).goes ≡ true → (more : List ℕ) → listing_on m (bs ++ more) ≡ (perform m (first bs)).lines ++ listing_on (perform m (first bs)).memory (drop n bs ++ more)
   next_record g more =
-      let k = known bs h in
-      let w = goes-whole m bs g in
-      let fits = (within bs w).1 in
-      turns m (bs ++ more) ∙ rw (turn_is more, g, same_length bs more k.four, drop-append-le (4 + body_length bs) bs more fits, whole-known bs w)
+      let k = known bs n h in
+      let fits = (within bs (goes-whole m bs g)).1 in
+      turns m (bs ++ more) ∙ rw (turn_is more, g, same_length bs more k.four, drop-append-le (4 + body_length bs) bs more fits, all-known g)
 
   pub lines-short : length m.words ≤ 4096 → length (perform m (first bs)).lines ≤ 65536
   lines-short l =
-      let e = turn-some m bs (omega (arith, (known bs h).four)) in
+      let e = turn-some m bs (omega (arith, (known bs n h).four)) in
       rw e at (turn-short m bs l)
 
-  pub goes-fits : (perform m (first bs)).goes ≡ true → known_length bs ≤ length bs
-  goes-fits g = let w = goes-whole m bs g in omega (arith, whole-known bs w, (within bs w).1)
+  pub goes-fits : (perform m (first bs)).goes ≡ true → n ≤ length bs
+  goes-fits g = omega (arith, all-known g, (within bs (goes-whole m bs g)).1)
 
 -- Lines where they have room ------------------------------------------------------------------------------------
 
@@ -134,27 +126,58 @@ put-after {o} {o₁} {xs} {at} {r} small h p =
 
 -- A turn of the loop --------------------------------------------------------------------------------------------
 
-module _ (w : List ℕ) (u : ℕ) (bs : List ℕ) (h : 0 < known_length bs) (few : length w ≤ 4096) {out w₁ out₁ : List ℕ} {at : ℕ} {t : Progress} (small : length out < 2 ^ 64) (room : at + 65536 ≤ length out) (d : Does (perform (memory w u) (first bs)) out at w₁ out₁ t) where
-  fits : at + length (perform (memory w u) (first bs)).lines ≤ length out
-  fits = omega (arith, lines-short (memory w u) bs h few)
+-- the lines so far, whatever bytes follow
+abbrev pub Says : Memory → List ℕ → List ℕ → Memory → List ℕ → Type 0
+Says m bs lines m₁ rest = (more : List ℕ) → listing_on m (bs ++ more) ≡ lines ++ listing_on m₁ (rest ++ more)
 
-  pub placed : t.at ≤ length out₁
-  placed = omega (arith, (put-after small fits d.puts).0, same d.puts, fits)
+module _ {m m₁ : M.Memory} {l l₁ : Lines} (bs : List ℕ) {n : ℕ} (h : known_length bs ≡ Some n) (few : length m.words.now ≤ 4096) (small : length l.bytes.now < 2 ^ 64) (room : l.at + 65536 ≤ length l.bytes.now) (d : Does (perform (memory_of m) (first bs)) m l m₁ l₁) where
+  fits : l.at + length (perform (memory_of m) (first bs)).lines ≤ length l.bytes.now
+  fits = omega (arith, lines-short (memory_of m) bs n h few)
 
-  pub stopped : t.goes ≡ false → (more : List ℕ) → take at out ++ listing_on (memory w u) (bs ++ more) ≡ take t.at out₁ ++ []
-  stopped g more =
-      ap (λ (l : List ℕ). take at out ++ l) (last_record (memory w u) bs h (sym d.goes ∙ g) more) ∙ sym (put-after small fits d.puts).1 ∙ sym (append-nil (take t.at out₁))
+  pub placed : (l.at ≤ l₁.at) × (l₁.at ≤ length l₁.bytes.now)
+  placed =
+      let p = put-after small fits d.puts.puts in
+      (omega (arith, p.0), omega (arith, p.0, same d.puts.puts, fits))
 
-  pub went : t.goes ≡ true → (more : List ℕ) → take at out ++ listing_on (memory w u) (bs ++ more) ≡ take t.at out₁ ++ listing_on (memory w₁ t.used) (drop (known_length bs) bs ++ more)
-  went g more =
-      let p = perform (memory w u) (first bs) in
-      let l = listing_on p.memory (drop (known_length bs) bs ++ more) in
-      rw (d.words, d.used, (put-after small fits d.puts).1) (ap (λ (x : List ℕ). take at out ++ x) (next_record (memory w u) bs h (sym d.goes ∙ g) more) ∙ sym (append_assoc (take at out) p.lines l))
+  since : (l₀ : Lines) → l₀.at ≤ l.at → put_since l₀ l₁ ≡ put_since l₀ l ++ (perform (memory_of m) (first bs)).lines
+  since l₀ before =
+      let p = put-after small fits d.puts.puts in
+      let k : l₀.at ≤ length (take l.at l.bytes.now) = omega (arith, length-take-le l.at l.bytes.now (omega arith)) in
+      ap (drop l₀.at) p.1 ∙ drop-append-le l₀.at (take l.at l.bytes.now) (perform (memory_of m) (first bs)).lines k
+
+  module _ (l₀ : Lines) (m₀ : Memory) (bytes : List ℕ) (before : l₀.at ≤ l.at) (says : Says m₀ bytes (put_since l₀ l) (memory_of m) bs) where
+    pub stopped : (perform (memory_of m) (first bs)).goes ≡ false → (more : List ℕ) → listing_on m₀ (bytes ++ more) ≡ put_since l₀ l₁ ++ []
+    stopped g more =
+        says more ∙ ap (λ (x : List ℕ). put_since l₀ l ++ x) (last_record (memory_of m) bs n h g more) ∙ sym (since l₀ before) ∙ sym (append-nil (put_since l₀ l₁))
+
+    pub went : (perform (memory_of m) (first bs)).goes ≡ true → (bs₁ : List ℕ) → bs₁ ≡ drop n bs → Says m₀ bytes (put_since l₀ l₁) (memory_of m₁) bs₁
+    went g bs₁ e more =
+        let p = perform (memory_of m) (first bs) in
+        let x = listing_on p.memory (drop n bs ++ more) in
+        rw (d.words, d.used, since l₀ before, e) (says more ∙ ap (λ (y : List ℕ). put_since l₀ l ++ y) (next_record (memory_of m) bs n h g more) ∙ sym (append_assoc (put_since l₀ l) p.lines x))
+
+-- what is left after a record
+module _ (bs : List ℕ) {bs₁ : List ℕ} {n : ℕ} (fits : n ≤ length bs) (e : bs₁ ≡ drop n bs) where
+  pub left : length bs₁ ≡ length bs - n
+  left = rw e (length-drop n bs)
+
+  pub behind : (bytes : List ℕ) → length bs ≤ length bytes → bs ≡ drop (length bytes - length bs) bytes → bs₁ ≡ drop (length bytes - length bs₁) bytes
+  behind bytes h f =
+      let k : (length bytes - length bs) + n ≡ length bytes - length bs₁ = omega (arith, left) in
+      e ∙ ap (drop n) f ∙ drop-drop n (length bytes - length bs) bytes ∙ ap (λ (i : ℕ). drop i bytes) k
+
+pub ended : {T E P : Type 0} (r : Result T E) → P → OnErr r P
+ended (Ok x) p = tt
+ended (Err e) p = p
+
+-- nothing is put at first
+pub at_first : (l : Lines) → put_since l l ≡ []
+at_first l = let z : l.at + 0 ≡ l.at = omega arith in rw z at (drop-take l.at 0 l.bytes.now)
 
 -- Why a run rests: the next record is not known, or its lines may have no room
-pub unknown : (bs : List ℕ) (t : Bool) → known_length bs ≡ 0 → (true && is_known bs && t) ≡ false
+pub unknown : (bs : List ℕ) (t : Bool) → known_length bs ≡ None → (is_known bs && t) ≡ false
 unknown bs t e = rw e
 
-pub full : (t : Bool) (at n : ℕ) → n < at + 65536 → (true && t && leb (at + 65536) n) ≡ false
+pub full : (t : Bool) (at n : ℕ) → n < at + 65536 → (t && leb (at + 65536) n) ≡ false
 full true at n h = rw (lt-leb (at + 65536) n h)
 full false at n h = refl

@@ -2,80 +2,52 @@
 
 #![tactic(auto)]
 
-ghost use Rattle.std.specs.Prelude.{◌≡◌, ◌&&◌, false, ◌+◌, ◌-◌, ◌≤◌, leb, drop, length, take};
-ghost use Rattle.script_calls.specs.Steps.{memory};
-ghost use Rattle.script_block.specs.Blocks.{Lists, is_known, known_length};
+ghost use Rattle.std.specs.Prelude.{◌≡◌, ◌&&◌, true, false, ◌+◌, ◌-◌, ◌≤◌, leb, drop, length, take, IfOk, OnErr};
+ghost use Rattle.script_calls.specs.Steps.{memory_of};
+ghost use Rattle.script_block.specs.Blocks.{Lists, is_known, known_length, put_since};
 
-use script_step;
+use script_calls::BadRecord;
+use script_calls::memory::Memory;
+use script_text::Lines;
 
-// How many bytes of the block its records took, the words in use and the bytes of lines after them, and whether the script
-// goes on.
-#[derive(Clone, Copy)]
-pub struct Block {
-    pub used: usize,
-    pub taken: usize,
-    pub at: usize,
-    pub goes: bool,
-}
-
-// The bytes of the first record, where these show what it is whatever follows them; else 0.
-pub fn known_length(bytes: &[u8]) -> usize
+// The bytes of the first record, where these show what it is whatever follows them.
+#[tactic(auto, unfolding(crate::specs::Blocks::known_length))]
+pub fn known_length(bytes: &[u8]) -> Option<usize>
     ensures { result ≡ known_length bytes.now }
 {
     if bytes.len() < 4 {
-        return 0;
+        return None;
     }
     let len = script_records::read_u32(bytes, 0);
     if 4096 < len {
-        return 4;
+        return Some(4);
     }
     let all = 4 + len as usize;
     if bytes.len() < all {
-        return 0;
+        return None;
     }
-    all
+    Some(all)
 }
 
-// The records one after the other, while the next one is known and its lines, at most 65,536 bytes, have room.
-pub fn run_block(s: &mut [u64], used: usize, bytes: &[u8], out: &mut [u8]) -> Block
-    requires { (length s.old ≤ 4096) × (used ≤ length s.old) }
-    ensures is { Lists (memory s.old used) bytes.now (memory s.new result.used) result.taken (take result.at out.new) result.goes }
-    ensures bounds { (result.used ≤ length s.new) × (result.taken ≤ length bytes.now) × (result.at ≤ length out.new) }
-    ensures rests { (result.goes && is_known (drop result.taken bytes.now) && leb (result.at + 65536) (length out.new)) ≡ false }
+// The records one after the other, while the next one is known and its lines, at most 65,536 bytes, have room: how many bytes
+// they took.
+pub fn run_block(m: &mut Memory<'_>, bytes: &[u8], out: &mut Lines<'_>) -> Result<usize, BadRecord>
+    requires { (length m.old.words.now ≤ 4096) × (out.old.at ≤ length out.old.bytes.now) }
+    ensures goes_on { IfOk result (λ taken. Lists (memory_of m.old) bytes.now (memory_of m.new) taken (put_since out.old out.new) true) }
+    ensures ends { OnErr result (Lists (memory_of m.old) bytes.now (memory_of m.new) 0 (put_since out.old out.new) false) }
+    ensures bounds { IfOk result (λ taken. taken ≤ length bytes.now) × (out.new.at ≤ length out.new.bytes.now) }
+    ensures rests { IfOk result (λ taken. (is_known (drop taken bytes.now) && leb (out.new.at + 65536) (length out.new.bytes.now)) ≡ false) }
+    ensures lent { (m.new.words.ghost_name ≡ m.old.words.ghost_name) × (out.new.bytes.ghost_name ≡ out.old.bytes.ghost_name) }
+    ensures sizes { (length m.new.words.now ≡ length m.old.words.now) × (length out.new.bytes.now ≡ length out.old.bytes.now) }
 {
-    let mut words = used;
-    let mut taken: usize = 0;
-    let mut at: usize = 0;
-    while 65536 <= out.len() - at {
-        let rest = &bytes[taken..];
-        let len = known_length(rest);
-        if len == 0 {
-            return Block {
-                used: words,
-                taken,
-                at,
-                goes: true,
-            };
-        }
-        let t = script_step::step(s, words, rest, out, at);
-        at = t.at;
-        words = t.used;
-        if !t.goes {
-            return Block {
-                used: words,
-                taken,
-                at,
-                goes: false,
-            };
-        }
-        taken += len;
+    let mut rest = bytes;
+    while 65536 <= out.bytes.len() - out.at
+        && let Some(len) = known_length(rest)
+    {
+        script_step::step(m, rest, out)?;
+        rest = &rest[len..];
     }
-    Block {
-        used: words,
-        taken,
-        at,
-        goes: true,
-    }
+    Ok(bytes.len() - rest.len())
 }
 
 // The bytes from a place to another moved to the front: how many.

@@ -6,14 +6,19 @@
 
 pub mod single;
 
-ghost use Rattle.std.specs.Prelude.{◌+◌, ◌≤◌, length};
+ghost use Rattle.std.specs.Prelude.{◌≡◌, ◌+◌, ◌≤◌, IfSome, length};
 
-const STDIN_FILENO: i32 = 0;
-
-const STDOUT_FILENO: i32 = 1;
+use std::io;
 
 // What the bytes hold before a call; no listing has this byte.
 const MARK: u8 = 255;
+
+// What was put of a listing of this length.
+fn put_of(out: &[u8], len: usize) -> &[u8]
+    ensures { length result.now ≤ length out.now }
+{
+    &out[..len.min(out.len())]
+}
 
 // How many prefixes end with `bad record`, and on how many the two listings differ.
 #[derive(Clone, Copy)]
@@ -22,122 +27,144 @@ struct Tally {
     different: u64,
 }
 
-// One prefix: the listings go into a and b.
-fn try_prefix(script: &[u8], a: &mut [u8], b: &mut [u8]) -> Tally
-    ensures { (result.bad ≤ 1) × (result.different ≤ 1) }
-{
-    let n = script::row_page_script(script, a);
-    let m = single::list(script, b);
-    let a = &a[..n.min(a.len())];
-    let b = &b[..m.min(b.len())];
-    Tally {
-        bad: u64::from(a.ends_with(b"bad record\n")),
-        different: u64::from(n != m || a != b),
+// Of one prefix.
+#[derive(Clone, Copy)]
+struct Compared {
+    is_bad: bool,
+    is_different: bool,
+}
+
+// Where the two listings of a script go.
+#[derive(Drop)]
+struct Outputs<'a> {
+    whole: &'a mut [u8],
+    blocks: &'a mut [u8],
+    ghost short: { length blocks.now ≤ 65536 },
+}
+
+impl Outputs<'_> {
+    fn compare(&mut self, script: &[u8]) -> Compared {
+        let n = script::row_page_script(script, self.whole);
+        let m = single::list(script, self.blocks);
+        let a = put_of(self.whole, n);
+        let b = put_of(self.blocks, m);
+        Compared {
+            is_bad: a.ends_with(b"bad record\n"),
+            is_different: n != m || a != b,
+        }
+    }
+
+    // A loop: a chain would compare each prefix twice, once for each count.
+    fn compare_prefixes(&mut self, script: &[u8]) -> Tally
+        requires { length script.now ≤ 65536 }
+    {
+        let mut bad: u64 = 0;
+        let mut different: u64 = 0;
+        for k in 0..=script.len() {
+            let compared = self.compare(&script[..k]);
+            bad += u64::from(compared.is_bad);
+            different += u64::from(compared.is_different);
+        }
+        Tally { bad, different }
+    }
+
+    fn report(&mut self, rt: &impl Print, script: &[u8]) -> io::Result<()>
+        requires { length script.now ≤ 65536 }
+    {
+        let tally = self.compare_prefixes(script);
+        println!(rt; "prefixes {}", script.len() + 1)?;
+        println!(rt; "bad record {}", tally.bad)?;
+        println!(rt; "different {}", tally.different)?;
+        let whole = single::list(script, self.blocks);
+        let listed = Listed {
+            script,
+            listing: put_of(self.blocks, whole),
+            whole,
+        };
+        listed.report(rt)
     }
 }
 
-fn try_prefixes(script: &[u8], a: &mut [u8], b: &mut [u8]) -> Tally
-    requires { length script.now ≤ 65536 }
-{
-    let mut bad: u64 = 0;
-    let mut different: u64 = 0;
-    for k in 0..=script.len() {
-        let t = try_prefix(&script[..k], a, b);
-        bad += t.bad;
-        different += t.different;
+// A script's listing, and its length, which is more where not all bytes had room.
+#[derive(Clone, Copy)]
+struct Listed<'a> {
+    script: &'a [u8],
+    listing: &'a [u8],
+    whole: usize,
+}
+
+impl Listed<'_> {
+    // An output of this length, the first bytes of out, all of which hold the mark: the bytes that fit are the listing's,
+    // those after them are as they were, and the whole length is returned.
+    fn is_right(self, out: &mut [u8], len: usize) -> bool
+        requires { len ≤ length out.old }
+    {
+        let n = script::row_page_script(self.script, &mut out[..len]);
+        let k = self.listing.len().min(len);
+        n == self.whole
+            && out[..k] == self.listing[..k]
+            && out[k..].iter().all(|&byte| byte == MARK)
     }
-    Tally { bad, different }
-}
 
-// An output of this length, the first bytes of out, all of which hold the mark: the bytes that fit are the listing's, those
-// after them are as they were, and the whole length is returned.
-fn is_right(script: &[u8], listing: &[u8], whole: usize, out: &mut [u8], len: usize) -> bool
-    requires { len ≤ length out.old }
-{
-    let n = script::row_page_script(script, &mut out[..len]);
-    let k = listing.len().min(len);
-    n == whole && out[..k] == listing[..k] && out[k..].iter().all(|&byte| byte == MARK)
-}
-
-fn try_length(script: &[u8], listing: &[u8], whole: usize, len: usize) -> bool
-    requires { len ≤ 65536 }
-{
-    let mut out = [MARK; 65536];
-    is_right(script, listing, whole, &mut out, len)
-}
-
-// How many lengths from one to below another are wrong.
-fn try_lengths(script: &[u8], listing: &[u8], whole: usize, from: usize, to: usize) -> u64
-    requires { to ≤ 65537 }
-{
-    let mut wrong: u64 = 0;
-    for len in from..to {
-        wrong += u64::from(!try_length(script, listing, whole, len));
+    fn is_right_at(self, len: usize) -> bool
+        requires { len ≤ 65536 }
+    {
+        let mut out = [MARK; 65536];
+        self.is_right(&mut out, len)
     }
-    wrong
+
+    // How many lengths from one to below another are wrong.
+    fn count_wrong(self, from: usize, to: usize) -> usize
+        requires { to ≤ 65537 }
+    {
+        (from..to).filter(|&len| !self.is_right_at(len)).count()
+    }
+
+    fn report(self, rt: &impl Print) -> io::Result<()>
+        requires { length self.listing.now ≤ 65536 }
+    {
+        let n = self.listing.len();
+        println!(rt; "lengths {}", n + 1)?;
+        println!(rt; "wrong {}", self.count_wrong(0, n + 1))?;
+        rt.write_all(self.listing)?;
+        let more = (65536 - n).min(40);
+        println!(rt; "longer {more}")?;
+        println!(rt; "wrong {}", self.count_wrong(n + 1, n + 1 + more))
+    }
 }
 
-// A line of a word and a number.
-fn print_count(word: &[u8], n: u64) {
-    io::write_all(STDOUT_FILENO, word);
-    io::write_all(STDOUT_FILENO, b" ");
-    io::print_decimal(STDOUT_FILENO, n);
-    io::write_all(STDOUT_FILENO, b"\n");
-}
-
-fn report_prefixes(script: &[u8], a: &mut [u8], b: &mut [u8])
-    requires { length script.now ≤ 65536 }
+// The script that the bytes begin with, after its length, and what follows it.
+fn split_script(bytes: &[u8]) -> Option<(&[u8], &[u8])>
+    ensures { IfSome result (λ parts. length parts.0.now + length parts.1.now + 4 ≡ length bytes.now) }
 {
-    let t = try_prefixes(script, a, b);
-    print_count(b"prefixes", script.len() as u64 + 1);
-    print_count(b"bad record", t.bad);
-    print_count(b"different", t.different);
-}
-
-fn report_lengths(script: &[u8], listing: &[u8], whole: usize)
-    requires { length listing.now ≤ 65536 }
-{
-    let n = listing.len();
-    let wrong = try_lengths(script, listing, whole, 0, n + 1);
-    print_count(b"lengths", n as u64 + 1);
-    print_count(b"wrong", wrong);
-    io::write_all(STDOUT_FILENO, listing);
-    let more = (65536 - n).min(40);
-    let wrong = try_lengths(script, listing, whole, n + 1, n + 1 + more);
-    print_count(b"longer", more as u64);
-    print_count(b"wrong", wrong);
-}
-
-fn report(script: &[u8], a: &mut [u8], b: &mut [u8])
-    requires { (length script.now ≤ 65536) × (length b.old ≤ 65536) }
-{
-    report_prefixes(script, a, b);
-    let whole = single::list(script, b);
-    let n = whole.min(b.len());
-    report_lengths(script, &b[..n], whole);
+    if bytes.len() < 4 {
+        return None;
+    }
+    let len = script_records::read_u32(bytes, 0) as usize;
+    bytes[4..].split_at_checked(len)
 }
 
 // Each script of the input, and how many bytes are left after the last.
-fn report_all(input: &[u8], a: &mut [u8], b: &mut [u8])
-    requires { (length input.now ≤ 65536) × (length b.old ≤ 65536) }
+fn report_all(rt: &impl Print, input: &[u8], outputs: &mut Outputs<'_>) -> io::Result<()>
+    requires { length input.now ≤ 65536 }
 {
     let mut rest = input;
-    while 4 <= rest.len() {
-        let len = script_records::read_u32(rest, 0) as usize;
-        if rest.len() - 4 < len {
-            break;
-        }
-        let (script, after) = rest[4..].split_at(len);
-        report(script, a, b);
+    while let Some((script, after)) = split_script(rest) {
+        outputs.report(rt, script)?;
         rest = after;
     }
-    print_count(b"left", rest.len() as u64);
+    println!(rt; "left {}", rest.len())
 }
 
-fn main() {
-    let mut input = io::large_buffer();
-    let mut a = io::large_buffer();
-    let mut b = io::large_buffer();
-    let n = io::read_full(STDIN_FILENO, &mut input);
-    report_all(&input[..n], &mut a, &mut b);
+// A write that fails ends the run with nothing after it; no status says so.
+fn main(rt: HostRuntime) {
+    let mut input = [0u8; 65536];
+    let mut whole = [0u8; 65536];
+    let mut blocks = [0u8; 65536];
+    let n = script_input::read_full(&mut rt.stdin(), &mut input);
+    let mut outputs = Outputs {
+        whole: &mut whole,
+        blocks: &mut blocks,
+    };
+    let _ = report_all(&rt, &input[..n], &mut outputs);
 }

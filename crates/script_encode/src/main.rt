@@ -4,12 +4,12 @@
 
 #![tactic(auto)]
 
-ghost use Rattle.std.specs.Prelude.{◌≤◌, length, IsTrue};
+ghost use Rattle.std.specs.Prelude.{◌≤◌, length, IsTrue, IfSome};
 ghost use Rattle.script_encode.specs.declared.TheConstants.{MAX_NUMBERS};
 
 use std::io::{BufRead, BufReader};
 use std::{fmt, io};
-use store_text::line::{Shown, Words};
+use store_text::line::{Shown, TooLong, Words};
 use store_text::number::NumberError;
 use store_text::{line, number};
 
@@ -39,16 +39,39 @@ impl Call {
         }
     }
 
-    // Whether it takes so many numbers. A prune takes two, and then page ids.
+    // How many numbers it takes; none of a prune, which takes two, and then page ids.
+    fn count(self) -> Option<usize>
+        ensures { IfSome result (λ count. count ≤ 3) }
+    {
+        match self {
+            Call::Create => Some(3),
+            Call::Append => Some(2),
+            Call::Prune => None,
+            Call::Find | Call::Walk | Call::Release => Some(1),
+        }
+    }
+
+    // Whether it takes so many numbers.
     fn takes(self, count: usize) -> bool
         ensures { IsTrue result → count ≤ MAX_NUMBERS }
     {
-        match self {
-            Call::Create => count == 3,
-            Call::Append => count == 2,
-            Call::Prune => 2 <= count && count <= MAX_NUMBERS,
-            Call::Find | Call::Walk | Call::Release => count == 1,
+        match self.count() {
+            Some(all) => count == all,
+            None => 2 <= count && count <= MAX_NUMBERS,
         }
+    }
+}
+
+impl fmt::Display for Call {
+    fn fmt<W: fmt::Write>(&self, f: &mut fmt::Formatter<W>) -> fmt::Result {
+        f.write_str(match *self {
+            Call::Create => "create",
+            Call::Append => "append",
+            Call::Find => "find",
+            Call::Prune => "prune",
+            Call::Walk => "walk",
+            Call::Release => "release",
+        })
     }
 }
 
@@ -60,6 +83,12 @@ enum Fault<'a> {
     Number(NumberError<'a>),
     // a call with so many numbers, which takes more or fewer
     Count(Call, usize),
+}
+
+impl From<TooLong> for Fault<'_> {
+    fn from(_: TooLong) -> Self {
+        Fault::LineTooLong
+    }
 }
 
 impl<'a> From<NumberError<'a>> for Fault<'a> {
@@ -83,20 +112,17 @@ impl fmt::Display for Fault<'_> {
                 "\"{}\" is no number",
                 Shown(word)
             ),
-            Fault::Count(Call::Create, has) => write!(f, "create takes 3 numbers and has {has}"),
-            Fault::Count(Call::Append, has) => write!(f, "append takes 2 numbers and has {has}"),
-            Fault::Count(Call::Find, has) => write!(f, "find takes 1 number and has {has}"),
-            Fault::Count(Call::Prune, has) if MAX_NUMBERS < has => {
-                write!(f, "prune takes at most 509 page ids and has {}", has - 2)
-            }
-            Fault::Count(Call::Prune, has) => {
-                write!(
+            Fault::Count(call, has) => match call.count() {
+                Some(1) => write!(f, "{call} takes 1 number and has {has}"),
+                Some(all) => write!(f, "{call} takes {all} numbers and has {has}"),
+                None if MAX_NUMBERS < has => {
+                    write!(f, "{call} takes at most 509 page ids and has {}", has - 2)
+                }
+                None => write!(
                     f,
-                    "prune takes 2 numbers, then at most 509 page ids, and has {has}"
-                )
-            }
-            Fault::Count(Call::Walk, has) => write!(f, "walk takes 1 number and has {has}"),
-            Fault::Count(Call::Release, has) => write!(f, "release takes 1 number and has {has}"),
+                    "{call} takes 2 numbers, then at most 509 page ids, and has {has}"
+                ),
+            },
         }
     }
 }
@@ -111,9 +137,10 @@ struct Asked<'a> {
 
 // What a line asks for; nothing where it has no word.
 fn read_call<'a, 'b>(
-    line: &'a [u8],
+    read: Result<&'a [u8], TooLong>,
     buffer: &'b mut [u64],
 ) -> Result<Option<Asked<'b>>, Fault<'a>> {
+    let line = read?;
     let mut words = Words(line::before_comment(line));
     let Some(name) = words.next() else {
         return Ok(None);
@@ -153,10 +180,7 @@ fn encode(rt: &(impl Print + Eprint), reader: &mut impl BufRead) -> io::Result<(
         let Some(read) = line::read_line(reader, &mut buffer) else {
             break;
         };
-        let Ok(line) = read else {
-            return write_fault(rt, at, Fault::LineTooLong);
-        };
-        match read_call(line, &mut numbers) {
+        match read_call(read, &mut numbers) {
             Ok(Some(asked)) => write_record(rt, asked)?,
             Ok(None) => {}
             Err(fault) => return write_fault(rt, at, fault),

@@ -1,14 +1,14 @@
-// What script_decode stands on: the records, one by one from standard input, and the names of the calls.
+// What script_decode stands on: the records, one by one from a reader, and the names of the calls.
 
 #![tactic(auto)]
 
 pub mod name;
 
-ghost use Rattle.std.specs.Prelude.{◌≡◌, ◌≤◌, ltb, length};
+ghost use Rattle.std.specs.Prelude.{◌≡◌, ◌≤◌, ltb, length, IfSome};
 ghost use Rattle.model.specs.Words.{pick};
 ghost use Rattle.script_records.specs.Records.{body_length};
 
-const STDIN_FILENO: i32 = 0;
+use std::io::Read;
 
 // How many bytes of a record are read after its first four: as many as they say, and none where they say more than 4,096.
 // Such a record is bad by its length alone.
@@ -24,16 +24,36 @@ pub fn announced(bytes: &[u8]) -> usize
     len as usize
 }
 
-// The bytes of the next record, or those that came of it where the input ends in it: how many, 0 at the end of the input.
-pub fn read_record(bytes: &mut [u8]) -> usize
-    requires { 4100 ≤ length bytes.old }
-    ensures { result ≤ 4100 }
+// Bytes up to the end of the buffer or of the input: how many. A read that fails counts as the end, and those before it stay,
+// which read_exact would not say.
+pub fn read_full(input: &mut impl Read, buffer: &mut [u8]) -> usize
+    ensures { result ≤ length buffer.new }
 {
-    let got = io::read_full(STDIN_FILENO, &mut bytes[0..4]);
-    if got < 4 {
-        return got;
+    let all = buffer.len();
+    let mut rest = buffer;
+    while !rest.is_empty() {
+        let count = input.read(rest).unwrap_or(0);
+        if count == 0 {
+            break;
+        }
+        rest = &mut rest[count..];
     }
-    let end = 4 + announced(&bytes[..]);
-    let more = io::read_full(STDIN_FILENO, &mut bytes[4..end]);
-    4 + more
+    all - rest.len()
+}
+
+// The bytes of the next record, or those that came of it where the input ends in it; none at the end of the input.
+pub fn read_record<'a, R: Read>(input: &mut R, buffer: &'a mut [u8]) -> Option<&'a [u8]>
+    requires { 4100 ≤ length buffer.old }
+    ensures { IfSome result (λ bytes. length bytes.now ≤ 4100) }
+{
+    let got = read_full(input, &mut buffer[..4]);
+    if got == 0 {
+        return None;
+    }
+    if got < 4 {
+        return Some(&buffer[..got]);
+    }
+    let end = 4 + announced(buffer);
+    let more = read_full(input, &mut buffer[4..end]);
+    Some(&buffer[..4 + more])
 }

@@ -2,28 +2,32 @@
 
 #![tactic(auto)]
 
-ghost use Rattle.std.specs.Prelude.{◌≤◌, length};
-ghost use Rattle.script_calls.specs.Steps.{Does, memory};
+ghost use Rattle.std.specs.Prelude.{◌≡◌, ◌+◌, ◌≤◌, is_some, length};
+ghost use Rattle.std.specs.ControlFlow.{continue_value};
+ghost use Rattle.script_calls.specs.Steps.{Does, memory_of};
 ghost use Rattle.script_step.specs.Script.{turn};
 
-use script_calls::Progress;
-use script_step;
+use script_calls::BadRecord;
+use script_calls::memory::Memory;
+use script_text::Lines;
+use std::ops::ControlFlow;
 
 // A turn of a program that takes the records one by one: the next record's lines, or the last line where no bytes are left.
 // They fit into 65,536 bytes: 4,096 words hold at most 511 nodes, and a line of a walk has at most 68 bytes (`short` in
 // script_walk/proofs/Short).
-pub fn turn_step(s: &mut [u64], used: usize, bytes: &[u8], out: &mut [u8]) -> Progress
-    requires { (5 ≤ length s.old) × (length s.old ≤ 4096) × (used ≤ length s.old) }
-    ensures does { Does (turn (memory s.old used) bytes.now) out.old 0 s.new out.new result }
-    ensures bounds { (result.used ≤ length s.new) × (result.at ≤ 65536) }
+#[tactic(auto, using(crate::proofs::Turning::ends, crate::proofs::Turning::goes))]
+pub fn turn_step(m: &mut Memory<'_>, bytes: &[u8], out: &mut Lines<'_>) -> ControlFlow<()>
+    requires { (5 ≤ length m.old.words.now) × (length m.old.words.now ≤ 4096) }
+    ensures does { Does (turn (memory_of m.old) bytes.now) m.old out.old m.new out.new }
+    ensures goes { is_some (continue_value result) ≡ (turn (memory_of m.old) bytes.now).goes }
+    ensures few { out.new.at ≤ out.old.at + 65536 }
 {
-    if bytes.len() == 0 {
-        let at = script_step::free_step(&s[..], out, 0);
-        return Progress {
-            used,
-            at,
-            goes: false,
-        };
+    if bytes.is_empty() {
+        script_step::free_step(m, out);
+        return ControlFlow::Break(());
     }
-    script_step::step(s, used, bytes, out, 0)
+    match script_step::step(m, bytes, out) {
+        Ok(()) => ControlFlow::Continue(()),
+        Err(BadRecord) => ControlFlow::Break(()),
+    }
 }

@@ -1,100 +1,95 @@
-use borrow.Author.Rules.{rules}
-use borrow.Author.Tests.{not-true, not-false}
-use borrow.Author.Rules.{part_to_end}
-use Prim.Native.Nat.{ℕ, ◌+◌, ◌^◌, ◌≤◌, ◌<◌}
-use mathlib.Core.Path.{◌≡◌, refl, sym, ◌∙◌, ap}
+use borrow.Author.Rules.{rules, part_to_end}
+use Prim.Native.Nat.{◌+◌, ◌≤◌}
+use mathlib.Core.Path.{◌≡◌, sym, ◌∙◌, ap}
+use mathlib.Core.Bool.{true, false}
 use native.Mathlib.Omega.{arith}
-use lib.ListN.{length, drop, length-drop}
-use lib.Seq.{drop-drop}
+use lib.ListN.{length}
+use Rattle.std.specs.Prelude.{Some, is_ok}
+use Rattle.std.proofs.lemmas.Result.{IfOk-from_err}
 use Rattle.script_records.specs.Records.{first}
-use Rattle.script_calls.specs.Steps.{memory}
-use Rattle.script_calls.proofs.Performing.{used-fits}
+use Rattle.script_calls.specs.Calls.{perform}
 use Rattle.script_text.proofs.Putting.{same}
-use Rattle.script_block.specs.Blocks.{known_length, is_known}
-use Rattle.script_block.proofs.Known.{stopped, went, placed, goes-fits, unknown, full}
+use Rattle.script_calls.specs.Steps.{memory_of}
+use Rattle.script_block.specs.Blocks.{known_length}
+use Rattle.script_block.proofs.Known.{known, stopped, went, placed, goes-fits, left, behind, ended}
 use Rattle.script_block.proofs.run_block.Goals as goal
 
-pub loop-out-init : goal.loop-out-init
-loop-out-init c = (refl, refl, omega arith, omega arith, omega arith, λ more. refl)
-
-pub returns-then-len-eq0 : goal.returns-then-len-eq0
-returns-then-len-eq0 c =
-    let v = c.loop-out in
-    let bytes = c.args.bytes.now in
-    let e = rw (part_to_end bytes v.taken) at c.known_length-len.ensures in
-    record { is = v.invariant.5; bounds = (v.invariant.2, v.invariant.3, v.invariant.4); rests = unknown (drop v.taken bytes) _ (omega (arith, e, c.if-len-eq0.true)) }
-
-pub returns-then-not-t : goal.returns-then-not-t
-returns-then-not-t c =
+pub returns-in_err-step-clause-ends : goal.returns-in_err-step-clause-ends
+returns-in_err-step-clause-ends c =
     let x = c in
-    let bytes = x.args.bytes.now in
     let v = c.loop-out in
-    let bs = drop v.taken bytes in
-    let e = rw (part_to_end bytes v.taken) at c.known_length-len.ensures in
-    let h : 0 < known_length bs = omega (arith, e, c.if-len-eq0.false) in
-    let d = rw (part_to_end bytes v.taken) at c.step-t.ensures in
-    let few : length v.s ≤ 4096 = omega (arith, v.invariant.0, x.requires.0) in
-    let small : length v.out < 2 ^ 64 = omega arith in
-    let room : v.at + 65536 ≤ length v.out = omega (arith, v.invariant.4, c.loop-out-test.true) in
-    let u = used-fits v.s v.words (first bs) v.invariant.2 in
-    let l : length c.step-t.new.s ≡ length v.s = search rules in
-    let o = placed v.s v.words bs h few small room d in
-    record { is = λ more. v.invariant.5 more ∙ stopped v.s v.words bs h few small room d (not-true _ c.if-not-t.true) more; bounds = (omega (arith, d.used, u, l), v.invariant.3, o); rests = refl }
+    let bs = v.rest.now in
+    let h : known_length bs ≡ Some c.in-Some.len = sym c.known_length.ensures ∙ c.in-Some.is in
+    let goes : (perform (memory_of v.m) (first bs)).goes ≡ false = sym c.step.ensures.goes ∙ ap is_ok c.in_err-step.was in
+    let few : length v.m.words.now ≤ 4096 = omega (arith, v.invariant.4, x.requires.0) in
+    let room : v.out.at + 65536 ≤ length v.out.bytes.now = omega (arith, v.invariant.3, c.loop-out-test.true) in
+    ended c.from_residual.result (stopped bs h few (omega arith) room c.step.ensures.does x.args.out.now (memory_of x.args.m.now) x.args.bytes.now v.invariant.2 v.invariant.8 goes)
 
-pub overflow_add-taken : goal.overflow_add-taken
-overflow_add-taken c =
+pub returns-in_err-step-clause-bounds : goal.returns-in_err-step-clause-bounds
+returns-in_err-step-clause-bounds c =
     let x = c in
-    let bytes = x.args.bytes.now in
     let v = c.loop-out in
-    let bs = drop v.taken bytes in
-    let e = rw (part_to_end bytes v.taken) at c.known_length-len.ensures in
-    let h : 0 < known_length bs = omega (arith, e, c.if-len-eq0.false) in
-    let d = rw (part_to_end bytes v.taken) at c.step-t.ensures in
-    let g = not-false _ c.if-not-t.false in
-    let f = goes-fits (memory v.s v.words) bs h (sym d.goes ∙ g) in
-    omega (arith, e, f, length-drop v.taken bytes, v.invariant.3)
+    let bs = v.rest.now in
+    let h : known_length bs ≡ Some c.in-Some.len = sym c.known_length.ensures ∙ c.in-Some.is in
+    let few : length v.m.words.now ≤ 4096 = omega (arith, v.invariant.4, x.requires.0) in
+    let room : v.out.at + 65536 ≤ length v.out.bytes.now = omega (arith, v.invariant.3, c.loop-out-test.true) in
+    let p = placed bs h few (omega arith) room c.step.ensures.does in
+    (IfOk-from_err c.from_residual.result _ c.from_residual.ensures.0, p.1)
+
+pub slice_bounds-rest-count : goal.slice_bounds-rest-count
+slice_bounds-rest-count c =
+    let v = c.loop-out in
+    let bs = v.rest.now in
+    let h : known_length bs ≡ Some c.in-Some.len = sym c.known_length.ensures ∙ c.in-Some.is in
+    let goes : (perform (memory_of v.m) (first bs)).goes ≡ true = sym c.step.ensures.goes ∙ ap is_ok c.in_ok-step.was in
+    goes-fits (memory_of v.m) bs c.in-Some.len h goes
 
 pub loop-out-smaller : goal.loop-out-smaller
 loop-out-smaller c =
-    let x = c in
-    let bytes = x.args.bytes.now in
     let v = c.loop-out in
-    let bs = drop v.taken bytes in
-    let e = rw (part_to_end bytes v.taken) at c.known_length-len.ensures in
-    let h : 0 < known_length bs = omega (arith, e, c.if-len-eq0.false) in
-    let d = rw (part_to_end bytes v.taken) at c.step-t.ensures in
-    let g = not-false _ c.if-not-t.false in
-    let f = goes-fits (memory v.s v.words) bs h (sym d.goes ∙ g) in
-    omega (arith, e, f, h, length-drop v.taken bytes, v.invariant.3)
+    let bs = v.rest.now in
+    let n = c.in-Some.len in
+    let h : known_length bs ≡ Some n = sym c.known_length.ensures ∙ c.in-Some.is in
+    let goes : (perform (memory_of v.m) (first bs)).goes ≡ true = sym c.step.ensures.goes ∙ ap is_ok c.in_ok-step.was in
+    let fits = goes-fits (memory_of v.m) bs n h goes in
+    omega (arith, left bs fits (part_to_end bs n), (known bs n h).some)
 
 pub loop-out-preserved : goal.loop-out-preserved
 loop-out-preserved c =
     let x = c in
-    let bytes = x.args.bytes.now in
     let v = c.loop-out in
-    let bs = drop v.taken bytes in
-    let e = rw (part_to_end bytes v.taken) at c.known_length-len.ensures in
-    let h : 0 < known_length bs = omega (arith, e, c.if-len-eq0.false) in
-    let d = rw (part_to_end bytes v.taken) at c.step-t.ensures in
-    let g = not-false _ c.if-not-t.false in
-    let f = goes-fits (memory v.s v.words) bs h (sym d.goes ∙ g) in
-    let few : length v.s ≤ 4096 = omega (arith, v.invariant.0, x.requires.0) in
-    let small : length v.out < 2 ^ 64 = omega arith in
-    let room : v.at + 65536 ≤ length v.out = omega (arith, v.invariant.4, c.loop-out-test.true) in
-    let u = used-fits v.s v.words (first bs) v.invariant.2 in
-    let l : length c.step-t.new.s ≡ length v.s = search rules in
-    let o = placed v.s v.words bs h few small room d in
-    let n = c.known_length-len.result in
-    let q : drop (known_length bs) bs ≡ drop (v.taken + n) bytes = drop-drop (known_length bs) v.taken bytes ∙ ap (λ (k : ℕ). drop (v.taken + k) bytes) (sym e) in (
-      l ∙ v.invariant.0,
-      same d.puts ∙ v.invariant.1,
-      omega (arith, d.used, u, l),
-      omega (arith, e, f, length-drop v.taken bytes, v.invariant.3),
-      o,
-      λ more. v.invariant.5 more ∙ rw q at (went v.s v.words bs h few small room d g more),
+    let bs = v.rest.now in
+    let n = c.in-Some.len in
+    let h : known_length bs ≡ Some n = sym c.known_length.ensures ∙ c.in-Some.is in
+    let goes : (perform (memory_of v.m) (first bs)).goes ≡ true = sym c.step.ensures.goes ∙ ap is_ok c.in_ok-step.was in
+    let few : length v.m.words.now ≤ 4096 = omega (arith, v.invariant.4, x.requires.0) in
+    let room : v.out.at + 65536 ≤ length v.out.bytes.now = omega (arith, v.invariant.3, c.loop-out-test.true) in
+    let d = c.step.ensures.does in
+    let p = placed bs h few (omega arith) room d in
+    let fits = goes-fits (memory_of v.m) bs n h goes in
+    let e = part_to_end bs n in (
+      d.lent ∙ v.invariant.0,
+      d.puts.lent ∙ v.invariant.1,
+      omega (arith, p.0, v.invariant.2),
+      p.1,
+      d.many ∙ v.invariant.4,
+      same d.puts.puts ∙ v.invariant.5,
+      omega (arith, left bs fits e, v.invariant.6),
+      behind bs fits e x.args.bytes.now v.invariant.6 v.invariant.7,
+      went bs h few (omega arith) room d x.args.out.now (memory_of x.args.m.now) x.args.bytes.now v.invariant.2 v.invariant.8 goes _ e,
     )
 
-pub returns : goal.returns
-returns c =
+pub slice_bounds-rest-start : goal.slice_bounds-rest-start
+slice_bounds-rest-start c =
     let v = c.loop-out in
-    record { is = v.invariant.5; bounds = (v.invariant.2, v.invariant.3, v.invariant.4); rests = full (is_known (drop v.taken c.args.bytes.now)) v.at (length v.out) (omega (arith, v.invariant.4, c.loop-out-test.false)) }
+    let bs = v.rest.now in
+    let h : known_length bs ≡ Some c.in-Some.len = sym c.known_length.ensures ∙ c.in-Some.is in
+    let goes : (perform (memory_of v.m) (first bs)).goes ≡ true = sym c.step.ensures.goes ∙ ap is_ok c.in_ok-step.was in
+    let fits = goes-fits (memory_of v.m) bs c.in-Some.len h goes in
+    search rules
+
+pub returns-in_err-step-clause-sizes : goal.returns-in_err-step-clause-sizes
+returns-in_err-step-clause-sizes c =
+    let v = c.loop-out in
+    let d = c.step.ensures.does in
+    (d.many ∙ v.invariant.4, same d.puts.puts ∙ v.invariant.5)
