@@ -48,7 +48,7 @@ fn raise(s: &mut StoreMut<'_>, n: NodeNo, copy: NodeNo, start: RowID, top: NodeN
     ensures words { s.new.words.now ≡ raised (shape_of s.old.layout) s.old.words.now n.0 copy.0 start.0 top.0 }
     ensures kept { SameLoan s.old s.new }
 {
-    let h = s.layout.header(s.read(), n);
+    let h = s.read().header(n);
     write::put(s, n, 0, h.height + 1);
     write::put(s, n, 1, 2);
     write::put(s, n, 3, RowID::NONE.0);

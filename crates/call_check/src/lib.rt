@@ -6,35 +6,34 @@ ghost use Rattle.std.specs.Prelude.{◌≡◌, ◌+◌, ◌-◌, ◌≤◌, ◌<
 ghost use Rattle.model.specs.Words.{lent};
 ghost use Rattle.model.specs.FullCheck.{chain_ends, full_check};
 ghost use Rattle.model.specs.Refusals.{checked_answer};
-ghost use Rattle.node_read.specs.Layout.{Fits, shape_of};
+ghost use Rattle.node_read.specs.Layout.{shape_of};
 ghost use Rattle.call_check.specs.Ending.{ending};
 
 use model::answer::{Refusal, WellFormed};
 use model::id::NodeNo;
 use node_read::header;
 use node_read::header::StoreHeader;
-use node_read::layout::Layout;
+use node_read::store::Store;
 use tree_survey;
 use tree_tally::Counts;
 
 // Whether k free nodes from head on lead to the end of the chain.
 #[tactic(auto, using(crate::proofs::Following::following))]
-fn follow_chain(l: Layout, s: &[u64], head: NodeNo, k: u64) -> bool
-    requires { Fits l s.now }
-    ensures { result ≡ chain_ends (shape_of l) l.pool s.now head.0 k }
+fn follow_chain(s: Store<'_>, head: NodeNo, k: u64) -> bool
+    ensures { result ≡ chain_ends (shape_of s.entry.layout) s.entry.layout.pool s.entry.words.now head.0 k }
 {
     let mut n = head;
     for _ in 0..k {
-        if !l.has_node(n) {
+        if !s.layout.has_node(n) {
             return false;
         }
-        let h = l.header(s, n);
+        let h = s.header(n);
         if !h.is_free() {
             return false;
         }
         n = NodeNo(h.count);
     }
-    n == NodeNo(l.pool)
+    n == NodeNo(s.layout.pool)
 }
 
 // After a sound tree with these counts: whether the chain was one, and all nodes are held.
@@ -64,8 +63,10 @@ pub fn full_check(s: &[u64]) -> Result<WellFormed, Refusal>
     ensures { checked_answer result ≡ full_check lent s.now }
 {
     let h = header::open(s)?;
-    let chain = follow_chain(h.layout, s, h.free_head, h.free_count);
-    let surveys = tree_survey::survey_both(h.layout, s, h.root);
+    let layout = h.layout;
+    let store = Store { layout, words: s };
+    let chain = follow_chain(store, h.free_head, h.free_count);
+    let surveys = tree_survey::survey_both(store, h.root);
     let counts = surveys.nodes?;
     surveys.ends?;
     check_counts(h, counts, chain)

@@ -8,7 +8,7 @@ ghost use Rattle.model.specs.Tree.{Limit, empty_root};
 ghost use Rattle.model.specs.Reading.{leaf};
 ghost use Rattle.model.specs.Lookup.{find_in_tree, found_in, try_find_row};
 ghost use Rattle.model.specs.Refusals.{location};
-ghost use Rattle.node_read.specs.Layout.{Fits, shape_of};
+ghost use Rattle.node_read.specs.Layout.{shape_of};
 ghost use Rattle.call_find.specs.Leaf.{IsLeaf};
 
 use model::answer::Refusal;
@@ -16,43 +16,42 @@ use model::id::{NodeNo, PageID, RowID};
 use node_place;
 use node_read::header;
 use node_read::layout::Layout;
+use node_read::store::Store;
 use node_root;
 use tree_path::path;
 
 // In a leaf that was reached.
 #[tactic(auto, unfolding(model::specs::Lookup::found_in))]
-fn find_in_leaf(l: Layout, s: &[u64], n: NodeNo, row: RowID) -> Option<PageID>
-    requires fits { Fits l s.now }
-    requires leaf { IsLeaf (shape_of l) l.pool s.now n.0 }
-    ensures { (b : Limit) → location (Ok result) ≡ found_in (shape_of l) s.now row.0 (leaf n.0 b) }
+fn find_in_leaf(s: Store<'_>, n: NodeNo, row: RowID) -> Option<PageID>
+    requires leaf { IsLeaf (shape_of s.layout) s.layout.pool s.words.now n.0 }
+    ensures { (b : Limit) → location (Ok result) ≡ found_in (shape_of s.entry.layout) s.entry.words.now row.0 (leaf n.0 b) }
 {
-    let h = l.header(s, n);
+    let h = s.header(n);
     if h.is_empty() {
         return None;
     }
     if h.end_row_id <= row {
         return None;
     }
-    let i = node_place::place_of(l, s, n, h.count, row);
-    Some(l.page(s, n, i))
+    let i = node_place::place_of(s, n, h.count, row);
+    Some(s.page(n, i))
 }
 
 // In the tree of an open store. Below the root's start only the root is read.
 #[tactic(auto, unfolding(model::specs::Lookup::find_in_tree, model::specs::Lookup::found_in))]
-fn find_in_tree(l: Layout, s: &[u64], root: NodeNo, row: RowID) -> Result<Option<PageID>, Refusal>
-    requires fits { Fits l s.now }
-    requires root_lt_pool { root.0 < l.pool }
-    ensures { location result ≡ find_in_tree (shape_of l) l.pool s.now root.0 row.0 }
+fn find_in_tree(s: Store<'_>, root: NodeNo, row: RowID) -> Result<Option<PageID>, Refusal>
+    requires root_lt_pool { root.0 < s.layout.pool }
+    ensures { location result ≡ find_in_tree (shape_of s.entry.layout) s.entry.layout.pool s.entry.words.now root.0 row.0 }
 {
-    let h = l.header(s, root);
+    let h = s.header(root);
     if row < h.start_row_id {
-        if !node_root::is_sound_root(l, s, root) {
+        if !node_root::is_sound_root(s, root) {
             return Err(Refusal::Unsound(root));
         }
         return Ok(None);
     }
-    let reached = path::find_leaf(l, s, root, row)?;
-    Ok(find_in_leaf(l, s, reached.leaf, row))
+    let reached = path::find_leaf(s, root, row)?;
+    Ok(find_in_leaf(s, reached.leaf, row))
 }
 
 // The page that holds a row, or none.

@@ -7,15 +7,14 @@ ghost use Rattle.model.specs.Words.{lent, fill};
 ghost use Rattle.model.specs.Reading.{page_ids, root_entries, root_nodes};
 ghost use Rattle.model.specs.Release.{destroy, released_words};
 ghost use Rattle.model.specs.Refusals.{destroyed};
-ghost use Rattle.node_read.specs.Layout.{Fits, shape_of};
+ghost use Rattle.node_read.specs.Layout.{shape_of};
 ghost use Rattle.node_read.specs.Store.{SameLoan};
 ghost use Rattle.release_pages.specs.Releasable.{Releasable, first_below};
 
 use model::answer::{Refusal, Released};
 use model::id::{NodeNo, RowID};
 use node_read::header;
-use node_read::layout::Layout;
-use node_read::store::StoreMut;
+use node_read::store::{Store, StoreMut};
 use node_write::write;
 use release_pages;
 use tree_free;
@@ -31,19 +30,18 @@ fn destroy_tree(s: &mut StoreMut<'_>, root: NodeNo, k: u64, pages: &mut [u64])
     ensures list { pages.new ≡ fill pages.old 0 (page_ids (root_entries (shape_of s.old.layout) s.old.words.now root.0)) }
     ensures kept { SameLoan s.old s.new }
 {
-    release_pages::copy_tree(s.layout, s.read(), root, pages);
+    release_pages::copy_tree(s.read(), root, pages);
     tree_free::free_first(s, root, k);
     write::set_word(&mut *s.words, 2, s.layout.pool);
 }
 
 // The first row of a sound tree with so many entries, if it is below the pivot: it is the lowest.
 #[tactic(auto, unfolding(release_pages::specs::Releasable::first_below))]
-fn first_below(l: Layout, s: &[u64], root: NodeNo, entries: u64, pivot: RowID) -> Option<RowID>
-    requires fits { Fits l s.now }
-    requires root_lt_pool { root.0 < l.pool }
-    ensures { result ≡ first_below (shape_of l) s.now root.0 entries pivot.0 }
+fn first_below(s: Store<'_>, root: NodeNo, entries: u64, pivot: RowID) -> Option<RowID>
+    requires root_lt_pool { root.0 < s.layout.pool }
+    ensures { result ≡ first_below (shape_of s.entry.layout) s.entry.words.now root.0 entries pivot.0 }
 {
-    let first = l.header(s, root).start_row_id;
+    let first = s.header(root).start_row_id;
     (0 < entries && first < pivot).then_some(first)
 }
 

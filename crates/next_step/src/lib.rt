@@ -4,7 +4,6 @@
 
 ghost use Rattle.std.specs.Prelude.{◌≡◌, ◌<◌};
 ghost use Rattle.model.specs.LeafWalk.{seek};
-ghost use Rattle.node_read.specs.Layout.{Fits};
 ghost use Rattle.next_step.specs.Steps.{Steps, gives};
 
 use model::answer::{Leaf, Refusal};
@@ -12,7 +11,7 @@ use model::cursor::RowPageIndexMemCursor;
 use model::id::{NodeNo, RowID};
 use next_records::LeafEntries;
 use node_read::header;
-use node_read::layout::Layout;
+use node_read::store::Store;
 use tree_path::path;
 
 // What a step by value gives: a leaf, the cursor afterwards, and the entries to give out.
@@ -25,12 +24,11 @@ pub struct LeafStep {
 
 // The leaf reached, and what is next for it. After the last leaf the cursor is done.
 #[tactic(auto, unfolding(model::specs::LeafWalk::is_last))]
-fn give(l: Layout, s: &[u64], n: NodeNo, next: Option<RowID>) -> LeafStep
-    requires fits { Fits l s.now }
-    requires n_lt_pool { n.0 < l.pool }
-    ensures { result ≡ gives l s.now n next }
+fn give(s: Store<'_>, n: NodeNo, next: Option<RowID>) -> LeafStep
+    requires n_lt_pool { n.0 < s.layout.pool }
+    ensures { result ≡ gives s.entry.layout s.entry.words.now n next }
 {
-    let h = l.header(s, n);
+    let h = s.header(n);
     let start = h.start_row_id;
     let end = h.end_row_id;
     let done = next.is_none();

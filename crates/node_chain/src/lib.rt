@@ -6,14 +6,13 @@ ghost use Rattle.std.specs.Prelude.{◌≡◌, not, [], IfSome, is_some, ◌+◌
 ghost use Rattle.model.specs.Words.{free_count, freed};
 ghost use Rattle.model.specs.Reading.{occ};
 ghost use Rattle.model.specs.Append.{chain_sound, firsts, past};
-ghost use Rattle.node_read.specs.Layout.{Fits, shape_of};
+ghost use Rattle.node_read.specs.Layout.{shape_of};
 ghost use Rattle.node_read.specs.Store.{SameLoan};
 ghost use Rattle.node_chain.specs.Chain.{is_link, listed};
 
 use model::id::NodeNo;
 use model::node::RowPageIndexNodeHeader;
-use node_read::layout::Layout;
-use node_read::store::StoreMut;
+use node_read::store::{Store, StoreMut};
 use node_write::write;
 
 // The head of the chain and the free count, as nodes are taken.
@@ -32,8 +31,8 @@ pub fn free_node(s: &mut StoreMut<'_>, n: NodeNo)
     ensures words { s.new.words.now ≡ freed (shape_of s.old.layout) s.old.words.now n.0 }
     ensures kept { SameLoan s.old s.new }
 {
-    let head = s.read()[3];
-    let free = s.read()[4];
+    let head = s.read().words[3];
+    let free = s.read().words[4];
     write::put(s, n, 0, RowPageIndexNodeHeader::FREE_MARK);
     write::put(s, n, 1, head);
     set_chain(&mut *s.words, n, free + 1);
@@ -48,18 +47,17 @@ fn holds(nodes: [NodeNo; 32], k: usize, n: NodeNo) -> bool
 }
 
 // Whether node n may be in the chain: below the pool and marked free, its next number at most the pool.
-fn is_link(l: Layout, s: &[u64], n: NodeNo) -> bool
-    requires { Fits l s.now }
-    ensures { result ≡ is_link (shape_of l) l.pool s.now n.0 }
+fn is_link(s: Store<'_>, n: NodeNo) -> bool
+    ensures { result ≡ is_link (shape_of s.entry.layout) s.entry.layout.pool s.entry.words.now n.0 }
 {
-    if !l.has_node(n) {
+    if !s.layout.has_node(n) {
         return false;
     }
-    let node = l.header(s, n);
+    let node = s.header(n);
     if !node.is_free() {
         return false;
     }
-    node.count <= l.pool
+    node.count <= s.layout.pool
 }
 
 // The first nodes of the chain, and the number after them.
@@ -70,23 +68,22 @@ pub struct Wanted {
 }
 
 // The k nodes of the chain from head on, read and tested before anything is written; none where they may not be taken.
-pub fn read_chain(l: Layout, s: &[u64], head: NodeNo, k: usize) -> Option<Wanted>
-    requires fits { Fits l s.now }
+pub fn read_chain(s: Store<'_>, head: NodeNo, k: usize) -> Option<Wanted>
     requires k_bound { k ≤ 32 }
-    ensures ok { is_some result ≡ chain_sound (shape_of l) l.pool s.now head.0 [] k }
-    ensures given { IfSome result (λ w. (listed w.nodes 0 k ≡ firsts (shape_of l) s.now head.0 k) × (w.next.0 ≡ past (shape_of l) s.now head.0 k)) }
+    ensures ok { is_some result ≡ chain_sound (shape_of s.entry.layout) s.entry.layout.pool s.entry.words.now head.0 [] k }
+    ensures given { IfSome result (λ w. (listed w.nodes 0 k ≡ firsts (shape_of s.entry.layout) s.entry.words.now head.0 k) × (w.next.0 ≡ past (shape_of s.entry.layout) s.entry.words.now head.0 k)) }
 {
     let mut nodes = [NodeNo(0); 32];
     let mut n = head;
     for i in 0..k {
-        if !is_link(l, s, n) {
+        if !is_link(s, n) {
             return None;
         }
         if holds(nodes, i, n) {
             return None;
         }
         nodes[i] = n;
-        n = NodeNo(l.header(s, n).count);
+        n = NodeNo(s.header(n).count);
     }
     Some(Wanted { nodes, next: n })
 }

@@ -22,7 +22,7 @@ pub fn copy_node(s: &mut StoreMut<'_>, from: NodeNo, to: NodeNo)
     let size = s.layout.node_size();
     // no `copy_within`: up to 1.4 times as slow where `to` is above `from`
     for j in 0..size {
-        let x = s.layout.part(s.read(), from, j);
+        let x = s.read().part(from, j);
         write::put(s, to, j, x);
     }
 }

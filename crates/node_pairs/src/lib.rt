@@ -54,7 +54,7 @@ pub fn add_pair<T: PairNumber>(s: &mut StoreMut<'_>, n: NodeNo, row: RowID, x: T
     ensures words { s.new.words.now ≡ added (shape_of s.old.layout) s.old.words.now n.0 row.0 (T.number x) }
     ensures kept { SameLoan s.old s.new }
 {
-    let k = s.layout.header(s.read(), n).count;
+    let k = s.read().header(n).count;
     put_pair(s, n, k, row, x);
     write::put(s, n, 1, k + 1);
 }

@@ -1,11 +1,10 @@
 // Which capacity, pool and length make a store, and where its words lie. Nothing else knows.
 
 ghost use Rattle.std.specs.Prelude.{◌≡◌, ◌+◌, ◌*◌, ◌≤◌, ◌<◌, length, ltb};
-ghost use Rattle.model.specs.Words.{child, child_place, count, in_range, node_size, pair_words, part, row, row_place, sized, store_length, word_place};
-ghost use Rattle.node_read.specs.Layout.{Fits, header_at, row_after, shape_of};
+ghost use Rattle.model.specs.Words.{child_place, in_range, node_size, row_place, sized, store_length, word_place};
+ghost use Rattle.node_read.specs.Layout.{shape_of};
 
-use model::id::{NodeNo, PageID, RowID};
-use model::node::RowPageIndexNodeHeader;
+use model::id::NodeNo;
 
 // The capacity of a node and the number of nodes: C and P.
 #[derive(Clone, Copy)]
@@ -84,16 +83,6 @@ impl Layout {
         (8 + n.0 * self.node_size() + j) as usize
     }
 
-    // Word j of node n.
-    pub fn part(self, s: &[u64], n: NodeNo, j: u64) -> u64
-        requires fits { Fits self s.now }
-        requires n_lt_pool { (n.0 < self.pool) × (j < node_size self.capacity) }
-        ensures { result ≡ part (shape_of self) s.now n.0 j }
-    {
-        let at = self.place(n, j);
-        s[at]
-    }
-
     // The place of row i in a node.
     pub fn row_place(self, i: u64) -> u64
         requires { (i < self.capacity) × (self.capacity ≤ 4094) }
@@ -108,72 +97,5 @@ impl Layout {
         ensures { result ≡ child_place i }
     {
         5 + 2 * i
-    }
-
-    // The four words before the pairs of node n.
-    pub fn header(self, s: &[u64], n: NodeNo) -> RowPageIndexNodeHeader
-        requires fits { Fits self s.now }
-        requires n_lt_pool { n.0 < self.pool }
-        ensures { result ≡ header_at (shape_of self) s.now n.0 }
-    {
-        let height = self.part(s, n, 0);
-        let count = self.part(s, n, 1);
-        let start = self.part(s, n, 2);
-        let end = self.part(s, n, 3);
-        RowPageIndexNodeHeader {
-            height,
-            count,
-            start_row_id: RowID(start),
-            end_row_id: RowID(end),
-        }
-    }
-
-    // The words of the first k pairs of node n.
-    pub fn entries(self, s: &[u64], n: NodeNo, k: u64) -> &[u64]
-        requires fits { Fits self s.now }
-        requires n_lt_pool { (n.0 < self.pool) × (k ≤ self.capacity) }
-        ensures { result.now ≡ pair_words (shape_of self) s.now n.0 0 k }
-    {
-        let at = self.place(n, self.row_place(0));
-        let end = at + 2 * k as usize;
-        &s[at..end]
-    }
-
-    // Row i of a node.
-    pub fn row(self, s: &[u64], n: NodeNo, i: u64) -> RowID
-        requires fits { Fits self s.now }
-        requires n_lt_pool { (n.0 < self.pool) × (i < self.capacity) }
-        ensures { result.0 ≡ row (shape_of self) s.now n.0 i }
-    {
-        RowID(self.part(s, n, self.row_place(i)))
-    }
-
-    // The row of the entry after entry i of a node, if there is one.
-    #[tactic(auto, unfolding(crate::specs::Layout::row_after))]
-    pub fn row_after(self, s: &[u64], n: NodeNo, i: u64) -> Option<RowID>
-        requires fits { Fits self s.now }
-        requires n_lt_pool { (n.0 < self.pool) × (i < count (shape_of self) s.now n.0) × (count (shape_of self) s.now n.0 ≤ self.capacity) }
-        ensures { result ≡ row_after (shape_of self) s.now n.0 i }
-    {
-        let count = self.header(s, n).count;
-        (i + 1 < count).then(|| self.row(s, n, i + 1))
-    }
-
-    // Child number i of a branch.
-    pub fn child(self, s: &[u64], n: NodeNo, i: u64) -> NodeNo
-        requires fits { Fits self s.now }
-        requires n_lt_pool { (n.0 < self.pool) × (i < self.capacity) }
-        ensures { result.0 ≡ child (shape_of self) s.now n.0 i }
-    {
-        NodeNo(self.part(s, n, self.child_place(i)))
-    }
-
-    // Page id i of a leaf.
-    pub fn page(self, s: &[u64], n: NodeNo, i: u64) -> PageID
-        requires fits { Fits self s.now }
-        requires n_lt_pool { (n.0 < self.pool) × (i < self.capacity) }
-        ensures { result.0 ≡ child (shape_of self) s.now n.0 i }
-    {
-        PageID(self.part(s, n, self.child_place(i)))
     }
 }

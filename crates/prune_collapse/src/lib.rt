@@ -4,7 +4,7 @@
 
 ghost use Rattle.std.specs.Prelude.{◌≡◌, IfOk, ◌+◌, ◌≤◌, ◌<◌, length};
 ghost use Rattle.model.specs.Words.{height};
-ghost use Rattle.node_read.specs.Layout.{Fits, shape_of};
+ghost use Rattle.node_read.specs.Layout.{shape_of};
 ghost use Rattle.prune_boundary.specs.Trims.{NoneBelow};
 ghost use Rattle.prune_write.specs.Nodes.{AllIn};
 ghost use Rattle.prune_collapse.specs.Copied.{Asked, Collapses, SoundTop, copies_of, copy_at};
@@ -12,7 +12,7 @@ ghost use Rattle.prune_collapse.specs.Copied.{Asked, Collapses, SoundTop, copies
 use model::answer::UnsoundNode;
 use model::id::NodeNo;
 use model::path::Path;
-use node_read::layout::Layout;
+use node_read::store::Store;
 use node_test;
 
 // The nodes copied, the top first.
@@ -25,46 +25,43 @@ pub struct Copies {
 // The copy at branch n of this height, of which k entries go: while one entry stays, and it is the last, its child is copied.
 #[tactic(auto, unfolding(crate::specs::Copied::copy_at))]
 fn copy_at(
-    l: Layout,
-    s: &[u64],
+    s: Store<'_>,
     n: NodeNo,
     height: u64,
     k: u64,
 ) -> Result<Option<NodeNo>, UnsoundNode>
-    requires fits { Fits l s.now }
-    requires asked { Asked l s.now n.0 height }
-    ensures { result ≡ copy_at (shape_of l) l.pool s.now n.0 height k }
+    requires asked { Asked s.layout s.words.now n.0 height }
+    ensures { result ≡ copy_at (shape_of s.entry.layout) s.entry.layout.pool s.entry.words.now n.0 height k }
 {
-    let h = l.header(s, n);
+    let h = s.header(n);
     let last = h.count - 1;
     if last != k {
         return Ok(None);
     }
-    let child = l.child(s, n, last);
-    if !l.has_node(child) {
+    let child = s.child(n, last);
+    if !s.layout.has_node(child) {
         return Err(UnsoundNode(n));
     }
-    let row = l.row(s, n, last);
-    if !node_test::is_sound(l, s, child, height - 1, row, None) {
+    let row = s.row(n, last);
+    if !node_test::is_sound(s, child, height - 1, row, None) {
         return Err(UnsoundNode(child));
     }
     Ok(Some(child))
 }
 
 // The nodes copied at an edge, which says on each level how many entries go.
-pub fn find_copies(l: Layout, s: &[u64], root: NodeNo, edge: Path) -> Result<Copies, UnsoundNode>
-    requires fits { Fits l s.now }
-    requires positions_len { (length edge.positions ≡ 32) × NoneBelow edge (height (shape_of l) s.now root.0 + 1) }
-    requires sound_top { SoundTop (shape_of l) l.pool s.now root.0 }
-    ensures are { Collapses (shape_of l) l.pool s.now root.0 edge (copies_of result) }
-    ensures few { IfOk result (λ c. (c.count ≤ 31) × AllIn l.pool c.nodes c.count) }
+pub fn find_copies(s: Store<'_>, root: NodeNo, edge: Path) -> Result<Copies, UnsoundNode>
+    requires positions_len { (length edge.positions ≡ 32) × NoneBelow edge (height (shape_of s.layout) s.words.now root.0 + 1) }
+    requires sound_top { SoundTop (shape_of s.layout) s.layout.pool s.words.now root.0 }
+    ensures are { Collapses (shape_of s.entry.layout) s.entry.layout.pool s.entry.words.now root.0 edge (copies_of result) }
+    ensures few { IfOk result (λ c. (c.count ≤ 31) × AllIn s.entry.layout.pool c.nodes c.count) }
 {
     let mut nodes = [NodeNo(0); 32];
     let mut n = root;
-    let levels = l.header(s, root).height as usize;
+    let levels = s.header(root).height as usize;
     for i in 0..levels {
         let height = (levels - i) as u64;
-        let Some(child) = copy_at(l, s, n, height, edge.positions[i].index)? else {
+        let Some(child) = copy_at(s, n, height, edge.positions[i].index)? else {
             return Ok(Copies { nodes, count: i });
         };
         nodes[i] = child;

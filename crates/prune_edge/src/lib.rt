@@ -5,12 +5,12 @@
 
 ghost use Rattle.std.specs.Prelude.{◌≡◌, ℕ, ◌+◌, ◌-◌, ◌≤◌, ◌<◌, get_or, length};
 ghost use Rattle.model.specs.Paths.{no_position};
-ghost use Rattle.node_read.specs.Layout.{Fits, shape_of};
+ghost use Rattle.node_read.specs.Layout.{shape_of};
 ghost use Rattle.prune_boundary.specs.Edge.{Settled, goes_at};
 ghost use Rattle.prune_edge.specs.Found.{Climbs, Finds, Given};
 
 use model::path::Path;
-use node_read::layout::Layout;
+use node_read::store::Store;
 
 // On each level of the tree the node that loses entries, with how many, 0 below the last; and how many nodes go.
 #[derive(Clone, Copy)]
@@ -21,10 +21,9 @@ pub struct Boundary {
 
 // From the leaf of the last entry that goes up to the first node that keeps an entry, or to the root. A node all of whose
 // entries go is left, and goes.
-fn climb(l: Layout, s: &[u64], path: Path, used: u64, left: u64) -> Boundary
-    requires fits { Fits l s.now }
-    requires given { Given (shape_of l) l.pool s.now path used left }
-    ensures { Climbs (shape_of l) l.pool s.now path used left result }
+fn climb(s: Store<'_>, path: Path, used: u64, left: u64) -> Boundary
+    requires given { Given (shape_of s.layout) s.layout.pool s.words.now path used left }
+    ensures { Climbs (shape_of s.entry.layout) s.entry.layout.pool s.entry.words.now path used left result }
 {
     let mut edge = path;
     let mut gone = left;
@@ -33,7 +32,7 @@ fn climb(l: Layout, s: &[u64], path: Path, used: u64, left: u64) -> Boundary
     while 1 < edge.depth {
         let above = edge.depth - 1;
         let top = edge.positions[above];
-        if top.index < l.header(s, top.node).count {
+        if top.index < s.header(top.node).count {
             return Boundary { edge, gone };
         }
         edge.depth = above;
@@ -72,13 +71,12 @@ fn settle(climbed: Path, levels: usize) -> Path
 }
 
 // The edge that a path to the last entry that goes leads to; its leaf has so many entries that go, and so many nodes were left.
-pub fn find_edge(l: Layout, s: &[u64], path: Path, used: u64, left: u64) -> Boundary
-    requires fits { Fits l s.now }
-    requires given { Given (shape_of l) l.pool s.now path used left }
-    ensures { Finds (shape_of l) l.pool s.now path used left result }
+pub fn find_edge(s: Store<'_>, path: Path, used: u64, left: u64) -> Boundary
+    requires given { Given (shape_of s.layout) s.layout.pool s.words.now path used left }
+    ensures { Finds (shape_of s.entry.layout) s.entry.layout.pool s.entry.words.now path used left result }
 {
     let levels = path.depth;
-    let climbed = climb(l, s, path, used, left);
+    let climbed = climb(s, path, used, left);
     Boundary {
         edge: settle(climbed.edge, levels),
         gone: climbed.gone,

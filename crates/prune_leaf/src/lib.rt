@@ -5,12 +5,13 @@
 ghost use Rattle.std.specs.Prelude.{◌≡◌, [], ◌+◌, ◌-◌, ◌≤◌, ◌<◌};
 ghost use Rattle.model.specs.Words.{count};
 ghost use Rattle.model.specs.Prune.{entry_end, on, ran_out};
-ghost use Rattle.node_read.specs.Layout.{Fits, shape_of};
+ghost use Rattle.node_read.specs.Layout.{shape_of};
 ghost use Rattle.prune_leaf.specs.Progress.{EndsAt, named_of, node_scan, progress_of};
 
 use model::answer::Refusal;
 use model::id::{NodeNo, PageID, RowID};
 use node_read::layout::Layout;
+use node_read::store::Store;
 
 // How many ids are named so far, and where the last entry of them ends.
 #[derive(Clone, Copy)]
@@ -21,29 +22,26 @@ pub struct Progress {
 
 // The end of entry i of leaf n.
 #[tactic(auto, unfolding(model::specs::Prune::entry_end, node_read::specs::Layout::row_after))]
-fn entry_end(l: Layout, s: &[u64], n: NodeNo, i: u64) -> RowID
-    requires fits { Fits l s.now }
-    requires n_lt_pool { (n.0 < l.pool) × (i < count (shape_of l) s.now n.0) × (count (shape_of l) s.now n.0 ≤ l.capacity) }
-    ensures { result.0 ≡ entry_end (shape_of l) s.now n.0 i }
+fn entry_end(s: Store<'_>, n: NodeNo, i: u64) -> RowID
+    requires n_lt_pool { (n.0 < s.layout.pool) × (i < count (shape_of s.layout) s.words.now n.0) × (count (shape_of s.layout) s.words.now n.0 ≤ s.layout.capacity) }
+    ensures { result.0 ≡ entry_end (shape_of s.entry.layout) s.entry.words.now n.0 i }
 {
-    let end = l.header(s, n).end_row_id;
-    l.row_after(s, n, i).unwrap_or(end)
+    let end = s.header(n).end_row_id;
+    s.row_after(n, i).unwrap_or(end)
 }
 
 // The entries of node n, where it is a leaf, against the ids from a place on; or why the list is refused.
 pub fn scan_node(
-    l: Layout,
-    s: &[u64],
+    s: Store<'_>,
     n: NodeNo,
     end: RowID,
     ids: &[u64],
     from: Progress,
 ) -> Result<Progress, Refusal>
-    requires fits { Fits l s.now }
-    requires n_lt_pool { (n.0 < l.pool) × (count (shape_of l) s.now n.0 ≤ l.capacity) }
-    ensures { progress_of ids.now result ≡ node_scan l s.now end.0 n.0 ids.now from.place from.reached.0 }
+    requires n_lt_pool { (n.0 < s.layout.pool) × (count (shape_of s.layout) s.words.now n.0 ≤ s.layout.capacity) }
+    ensures { progress_of ids.entry.words.now result ≡ node_scan s.entry.layout s.entry.words.now end.0 n.0 ids.entry.words.now from.place from.reached.0 }
 {
-    let h = l.header(s, n);
+    let h = s.header(n);
     if !h.is_leaf() {
         return Ok(from);
     }
@@ -53,10 +51,10 @@ pub fn scan_node(
         if ids.len() <= place {
             return Ok(Progress { place, reached });
         }
-        if l.page(s, n, i) != PageID(ids[place]) {
+        if s.page(n, i) != PageID(ids[place]) {
             return Err(Refusal::PageDiffers(place as u64));
         }
-        let next = entry_end(l, s, n, i);
+        let next = entry_end(s, n, i);
         if end < next {
             return Err(Refusal::EndDiffers(place as u64));
         }

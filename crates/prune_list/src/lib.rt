@@ -5,7 +5,7 @@
 ghost use Rattle.std.specs.Prelude.{◌≡◌, [], ◌∷◌, ◌+◌, ◌-◌, ◌≤◌, ◌<◌, length};
 ghost use Rattle.model.specs.Words.{height};
 ghost use Rattle.model.specs.Paths.{entered};
-ghost use Rattle.node_read.specs.Layout.{Fits, shape_of};
+ghost use Rattle.node_read.specs.Layout.{shape_of};
 ghost use Rattle.tree_turn.specs.Left.{Valid};
 ghost use Rattle.tree_turn.specs.Turn.{out_of};
 ghost use Rattle.prune_list.specs.Named.{Begun, Ending, PassedRoot, below_scan, prefix_of, tree_scan};
@@ -13,7 +13,7 @@ ghost use Rattle.prune_list.specs.Named.{Begun, Ending, PassedRoot, below_scan, 
 use model::answer::Refusal;
 use model::id::{NodeNo, RowID};
 use model::path::Path;
-use node_read::layout::Layout;
+use node_read::store::Store;
 use prune_leaf;
 use prune_leaf::Progress;
 use tree_tally;
@@ -33,20 +33,18 @@ pub struct Prefix {
 // changed in place.
 #[tactic(auto, unfolding(crate::specs::Named::Ending), using(crate::proofs::Scanning::scan_turns))]
 fn scan_below(
-    l: Layout,
-    s: &[u64],
+    s: Store<'_>,
     node: NodeNo,
     first: u64,
     end: RowID,
     ids: &[u64],
     from: Progress,
 ) -> Result<Prefix, Refusal>
-    requires fits { Fits l s.now }
-    requires valid { Valid (shape_of l) l.pool s.now (height (shape_of l) s.now node.0) (entered node.0 ∷ []) }
-    requires first_value { first ≡ out_of (shape_of l) l.pool s.now (height (shape_of l) s.now node.0) node.0 }
-    requires begun { Begun l s.now node.0 ids.now from.place from.reached.0 }
-    ensures answer { prefix_of end.0 result ≡ below_scan l s.now end node ids.now from.place from.reached }
-    ensures edge { Ending (shape_of l) l.pool s.now end.0 node.0 result }
+    requires valid { Valid (shape_of s.layout) s.layout.pool s.words.now (height (shape_of s.layout) s.words.now node.0) (entered node.0 ∷ []) }
+    requires first_value { first ≡ out_of (shape_of s.layout) s.layout.pool s.words.now (height (shape_of s.layout) s.words.now node.0) node.0 }
+    requires begun { Begun s.layout s.words.now node.0 ids.words.now from.place from.reached.0 }
+    ensures answer { prefix_of end.0 result ≡ below_scan s.entry.layout s.entry.words.now end node ids.entry.words.now from.place from.reached }
+    ensures edge { Ending (shape_of s.entry.layout) s.entry.layout.pool s.entry.words.now end.0 node.0 result }
 {
     let mut walk = TreeWalk::rooted(node, first);
     let mut named = from;
@@ -56,10 +54,10 @@ fn scan_below(
         if walk.is_over() {
             return Err(Refusal::ListTooLong(named.place as u64));
         }
-        match walk.turn(l, s)? {
+        match walk.turn(s)? {
             None => left = tree_tally::add(left, 1),
             Some(down) => {
-                let more = prune_leaf::scan_node(l, s, down.child, end, ids, named)?;
+                let more = prune_leaf::scan_node(s, down.child, end, ids, named)?;
                 used = (more.place - named.place) as u64;
                 named = more;
             }
@@ -76,24 +74,22 @@ fn scan_below(
 
 // The leaves from a root that passed its test, with the first of its child numbers out of range.
 pub fn scan_tree(
-    l: Layout,
-    s: &[u64],
+    s: Store<'_>,
     root: NodeNo,
     first: u64,
     end: RowID,
     ids: &[u64],
 ) -> Result<Prefix, Refusal>
-    requires fits { Fits l s.now }
-    requires passed_root { PassedRoot l s.now root.0 }
-    requires first_value { first ≡ out_of (shape_of l) l.pool s.now (height (shape_of l) s.now root.0) root.0 }
-    requires ids_nonzero { 0 < length ids.now }
-    ensures answer { prefix_of end.0 result ≡ tree_scan l s.now end.0 root.0 ids.now }
-    ensures edge { Ending (shape_of l) l.pool s.now end.0 root.0 result }
+    requires passed_root { PassedRoot s.layout s.words.now root.0 }
+    requires first_value { first ≡ out_of (shape_of s.layout) s.layout.pool s.words.now (height (shape_of s.layout) s.words.now root.0) root.0 }
+    requires ids_nonzero { 0 < length ids.words.now }
+    ensures answer { prefix_of end.0 result ≡ tree_scan s.entry.layout s.entry.words.now end.0 root.0 ids.entry.words.now }
+    ensures edge { Ending (shape_of s.entry.layout) s.entry.layout.pool s.entry.words.now end.0 root.0 result }
 {
     let none = Progress {
         place: 0,
         reached: RowID(0),
     };
-    let named = prune_leaf::scan_node(l, s, root, end, ids, none)?;
-    scan_below(l, s, root, first, end, ids, named)
+    let named = prune_leaf::scan_node(s, root, end, ids, none)?;
+    scan_below(s, root, first, end, ids, named)
 }

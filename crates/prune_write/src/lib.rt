@@ -26,7 +26,7 @@ fn trim_node(s: &mut StoreMut<'_>, n: NodeNo, k: u64, end: RowID)
     ensures kept { SameLoan s.old s.new }
 {
     let l = s.layout;
-    let h = l.header(s.read(), n);
+    let h = s.read().header(n);
     let left = h.count - k;
     node_copy::move_front(s, n, k, left);
     write::put(s, n, 1, left);

@@ -26,7 +26,7 @@ pub fn free_first(s: &mut StoreMut<'_>, root: NodeNo, k: u64)
     let mut freed: u64 = 0;
     while freed < k {
         let top = path.last();
-        match turn::untested(s.layout, s.read(), top) {
+        match turn::untested(s.read(), top) {
             None => {
                 node_chain::free_node(s, top.node);
                 freed += 1;

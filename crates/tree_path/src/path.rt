@@ -3,14 +3,14 @@
 
 ghost use Rattle.std.specs.Prelude.{◌≡◌, ◌<◌};
 ghost use Rattle.model.specs.Reading.{descend, root_leaf, to_row};
-ghost use Rattle.node_read.specs.Layout.{Fits, shape_of};
+ghost use Rattle.node_read.specs.Layout.{shape_of};
 ghost use Rattle.node_test.specs.Test.{limit_of};
 ghost use Rattle.tree_path.specs.Reached.{reached_of};
 
 use model::answer::UnsoundNode;
 use model::id::{NodeNo, RowID};
 use node_place;
-use node_read::layout::Layout;
+use node_read::store::Store;
 use node_root;
 use node_test;
 use tree_turn::turn;
@@ -25,8 +25,7 @@ pub struct Reached {
 // From a node of this height, which its holder leads to by an entry of this row, and with what is next for it, towards
 // the sought row.
 pub fn find_below(
-    l: Layout,
-    s: &[u64],
+    s: Store<'_>,
     holder: NodeNo,
     node: NodeNo,
     height: u64,
@@ -34,51 +33,49 @@ pub fn find_below(
     beyond: Option<RowID>,
     sought: RowID,
 ) -> Result<Reached, UnsoundNode>
-    requires { Fits l s.now }
-    ensures { reached_of result ≡ descend (to_row (shape_of l) s.now sought.0) (shape_of l) l.pool s.now height holder.0 node.0 row.0 (limit_of beyond) }
+    ensures { reached_of result ≡ descend (to_row (shape_of s.entry.layout) s.entry.words.now sought.0) (shape_of s.entry.layout) s.entry.layout.pool s.entry.words.now height holder.0 node.0 row.0 (limit_of beyond) }
 {
     let mut parent = holder;
     let mut n = node;
     let mut r = row;
     let mut next = beyond;
     for below in (0..height).rev() {
-        if !l.has_node(n) {
+        if !s.layout.has_node(n) {
             return Err(UnsoundNode(parent));
         }
-        if !node_test::is_sound(l, s, n, below + 1, r, next) {
+        if !node_test::is_sound(s, n, below + 1, r, next) {
             return Err(UnsoundNode(n));
         }
-        let head = l.header(s, n);
-        let index = node_place::place_of(l, s, n, head.count, sought);
-        next = turn::next_row(l, s, n, index, next);
-        r = l.row(s, n, index);
+        let head = s.header(n);
+        let index = node_place::place_of(s, n, head.count, sought);
+        next = turn::next_row(s, n, index, next);
+        r = s.row(n, index);
         parent = n;
-        n = l.child(s, n, index);
+        n = s.child(n, index);
     }
-    if !l.has_node(n) {
+    if !s.layout.has_node(n) {
         return Err(UnsoundNode(parent));
     }
-    if !node_test::is_sound(l, s, n, 0, r, next) {
+    if !node_test::is_sound(s, n, 0, r, next) {
         return Err(UnsoundNode(n));
     }
     Ok(Reached { leaf: n, next })
 }
 
 // From the root of an open store, which is its own holder: no entry leads to it.
-pub fn find_leaf(l: Layout, s: &[u64], root: NodeNo, sought: RowID) -> Result<Reached, UnsoundNode>
-    requires fits { Fits l s.now }
-    requires root_lt_pool { root.0 < l.pool }
-    ensures { reached_of result ≡ root_leaf (to_row (shape_of l) s.now sought.0) (shape_of l) l.pool s.now root.0 }
+pub fn find_leaf(s: Store<'_>, root: NodeNo, sought: RowID) -> Result<Reached, UnsoundNode>
+    requires root_lt_pool { root.0 < s.layout.pool }
+    ensures { reached_of result ≡ root_leaf (to_row (shape_of s.entry.layout) s.entry.words.now sought.0) (shape_of s.entry.layout) s.entry.layout.pool s.entry.words.now root.0 }
 {
-    if node_root::is_empty_root(l, s, root) {
+    if node_root::is_empty_root(s, root) {
         return Ok(Reached {
             leaf: root,
             next: None,
         });
     }
-    let h = l.header(s, root);
+    let h = s.header(root);
     if !h.is_in_height() {
         return Err(UnsoundNode(root));
     }
-    find_below(l, s, root, root, h.height, h.start_row_id, None, sought)
+    find_below(s, root, root, h.height, h.start_row_id, None, sought)
 }

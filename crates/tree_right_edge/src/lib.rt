@@ -6,13 +6,13 @@
 ghost use Rattle.std.specs.Prelude.{◌≡◌, ◌≤◌, ◌<◌};
 ghost use Rattle.model.specs.Words.{max_height};
 ghost use Rattle.model.specs.Append.{append_start};
-ghost use Rattle.node_read.specs.Layout.{Fits, shape_of};
+ghost use Rattle.node_read.specs.Layout.{shape_of};
 ghost use Rattle.tree_right_edge.specs.Edge.{Descended, EdgeFound};
 
 use model::answer::UnsoundNode;
 use model::id::{NodeNo, RowID};
 use model::path::{Path, Position};
-use node_read::layout::Layout;
+use node_read::store::Store;
 use node_root;
 use node_test;
 
@@ -33,12 +33,11 @@ pub struct RightEdge {
 
 // The row after the right leaf n; an empty root begins at its start.
 #[tactic(auto, unfolding(model::specs::Append::append_start))]
-pub fn range_start(l: Layout, s: &[u64], n: NodeNo) -> RowID
-    requires fits { Fits l s.now }
-    requires n_lt_pool { n.0 < l.pool }
-    ensures { result.0 ≡ append_start (shape_of l) s.now n.0 }
+pub fn range_start(s: Store<'_>, n: NodeNo) -> RowID
+    requires n_lt_pool { n.0 < s.layout.pool }
+    ensures { result.0 ≡ append_start (shape_of s.entry.layout) s.entry.words.now n.0 }
 {
-    let h = l.header(s, n);
+    let h = s.header(n);
     if h.is_empty() {
         return h.start_row_id;
     }
@@ -49,15 +48,13 @@ pub fn range_start(l: Layout, s: &[u64], n: NodeNo) -> RowID
 // the right edge.
 #[tactic(auto, using(crate::proofs::Turns::edge_steps))]
 fn go_down(
-    l: Layout,
-    s: &[u64],
+    s: Store<'_>,
     root: NodeNo,
     height: u64,
     row: RowID,
 ) -> Result<RightEdge, UnsoundNode>
-    requires fits { Fits l s.now }
     requires height_le_max_height { height ≤ max_height }
-    ensures { Descended (shape_of l) l.pool s.now height root.0 row.0 result }
+    ensures { Descended (shape_of s.entry.layout) s.entry.layout.pool s.entry.words.now height root.0 row.0 result }
 {
     // no Path with a method that stores: append at C = 2 took 1.14 times as long
     let mut positions = [Position::entered(root); 32];
@@ -72,14 +69,14 @@ fn go_down(
     let mut depth: usize = 0;
     // no `for` over heights: the leaf is tested and stored as the others are, and has no child
     loop {
-        if !l.has_node(n) {
+        if !s.layout.has_node(n) {
             return Err(UnsoundNode(parent));
         }
-        if !node_test::is_sound(l, s, n, h, r, None) {
+        if !node_test::is_sound(s, n, h, r, None) {
             return Err(UnsoundNode(n));
         }
-        let head = l.header(s, n);
-        let full = head.is_full(l.capacity);
+        let head = s.header(n);
+        let full = head.is_full(s.layout.capacity);
         if !full {
             room = Room { node: n, needed: h };
         }
@@ -93,9 +90,9 @@ fn go_down(
                 room,
             });
         }
-        r = l.row(s, n, index);
+        r = s.row(n, index);
         parent = n;
-        n = l.child(s, n, index);
+        n = s.child(n, index);
         h -= 1;
     }
 }
@@ -103,12 +100,11 @@ fn go_down(
 // From the root of an open store, which is its own holder: no entry leads to it. An empty root is an edge of one
 // position, with room.
 #[tactic(auto, using(crate::proofs::Edges::root_steps))]
-pub fn right_edge(l: Layout, s: &[u64], root: NodeNo) -> Result<RightEdge, UnsoundNode>
-    requires fits { Fits l s.now }
-    requires root_lt_pool { root.0 < l.pool }
-    ensures { EdgeFound (shape_of l) l.pool s.now root.0 result }
+pub fn right_edge(s: Store<'_>, root: NodeNo) -> Result<RightEdge, UnsoundNode>
+    requires root_lt_pool { root.0 < s.layout.pool }
+    ensures { EdgeFound (shape_of s.entry.layout) s.entry.layout.pool s.entry.words.now root.0 result }
 {
-    if node_root::is_empty_root(l, s, root) {
+    if node_root::is_empty_root(s, root) {
         return Ok(RightEdge {
             path: Path::rooted(root),
             leaf: root,
@@ -118,9 +114,9 @@ pub fn right_edge(l: Layout, s: &[u64], root: NodeNo) -> Result<RightEdge, Unsou
             },
         });
     }
-    let h = l.header(s, root);
+    let h = s.header(root);
     if !h.is_in_height() {
         return Err(UnsoundNode(root));
     }
-    go_down(l, s, root, h.height, h.start_row_id)
+    go_down(s, root, h.height, h.start_row_id)
 }

@@ -4,11 +4,11 @@
 
 ghost use Rattle.std.specs.Prelude.{◌≡◌, ◌+◌, ◌-◌, ◌≤◌, ◌<◌};
 ghost use Rattle.model.specs.Words.{count, height};
-ghost use Rattle.node_read.specs.Layout.{Fits, shape_of};
+ghost use Rattle.node_read.specs.Layout.{shape_of};
 ghost use Rattle.tree_tally.specs.Tally.{counted, more};
 
 use model::id::NodeNo;
-use node_read::layout::Layout;
+use node_read::store::Store;
 
 // What a reading has counted. A sound tree has at most 65,535 nodes, so the counts of one never reach Counts::MOST.
 #[derive(Clone, Copy)]
@@ -33,13 +33,12 @@ pub fn add(k: u64, some: u64) -> u64
 
 // Node n counted.
 #[tactic(auto, unfolding(crate::specs::Tally::counted))]
-pub fn count_node(l: Layout, s: &[u64], n: NodeNo, k: Counts) -> Counts
-    requires fits { Fits l s.now }
-    requires n_lt_pool { (n.0 < l.pool) × (count (shape_of l) s.now n.0 ≤ l.capacity) }
-    ensures { result ≡ counted (shape_of l) s.now n.0 k }
+pub fn count_node(s: Store<'_>, n: NodeNo, k: Counts) -> Counts
+    requires n_lt_pool { (n.0 < s.layout.pool) × (count (shape_of s.layout) s.words.now n.0 ≤ s.layout.capacity) }
+    ensures { result ≡ counted (shape_of s.entry.layout) s.entry.words.now n.0 k }
 {
     let nodes = add(k.nodes, 1);
-    let h = l.header(s, n);
+    let h = s.header(n);
     if !h.is_leaf() {
         return Counts {
             nodes,

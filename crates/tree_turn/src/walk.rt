@@ -1,7 +1,7 @@
 // A walk over a tree in reading order, which is stored to in place.
 
 ghost use Rattle.std.specs.Prelude.{◌≡◌, ◌<◌, eqb};
-ghost use Rattle.node_read.specs.Layout.{Fits, shape_of};
+ghost use Rattle.node_read.specs.Layout.{shape_of};
 ghost use Rattle.tree_turn.specs.Walk.{Turned, Walking, rooted_walk};
 
 use crate::turn;
@@ -9,7 +9,7 @@ use crate::turn::Entered;
 use model::answer::UnsoundNode;
 use model::id::{NodeNo, RowID};
 use model::path::Path;
-use node_read::layout::Layout;
+use node_read::store::Store;
 
 // The path to where the walk is, and for each node on it what is next after the node and the first of its child numbers out of
 // range.
@@ -43,20 +43,19 @@ impl TreeWalk {
     // the node was left.
     #[inline(always)]
     #[tactic(auto, using(crate::proofs::Turns::walk_turn))]
-    pub fn turn(&mut self, l: Layout, s: &[u64]) -> Result<Option<Entered>, UnsoundNode>
-        requires fits { Fits l s.now }
-        requires walking { Walking (shape_of l) l.pool s.now self.old }
+    pub fn turn(&mut self, s: Store<'_>) -> Result<Option<Entered>, UnsoundNode>
+        requires walking { Walking (shape_of s.layout) s.layout.pool s.words.now self.old }
         requires not_over { 0 < self.old.path.depth }
-        ensures { Turned (shape_of l) l.pool s.now self.old result self.new }
+        ensures { Turned (shape_of s.entry.layout) s.entry.layout.pool s.entry.words.now self.old result self.new }
     {
         let depth = self.path.depth;
         let at = depth - 1;
         let top = self.path.last();
-        if turn::is_done(l, s, top) {
+        if turn::is_done(s, top) {
             self.path.leave();
             return Ok(None);
         }
-        let down = turn::tested(l, s, top, self.firsts[at], self.nexts[at])?;
+        let down = turn::tested(s, top, self.firsts[at], self.nexts[at])?;
         self.path.enter(down.child);
         self.nexts[depth] = down.next;
         self.firsts[depth] = down.first;

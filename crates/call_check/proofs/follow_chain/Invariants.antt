@@ -5,4 +5,4 @@ use Rattle.model.specs.FullCheck.{chain_ends}
 use Rattle.call_check.proofs.follow_chain.Given as goal
 
 abbrev pub invariant-loop : goal.invariant-loop
-invariant-loop l = chain_ends (shape_of l.l) l.l.pool l.s l.initial.n.0 l.k ≡ chain_ends (shape_of l.l) l.l.pool l.s l.n.0 (l.k - l.counter)
+invariant-loop l = chain_ends (shape_of l.s.layout) l.s.layout.pool l.s.words.now l.initial.n.0 l.k ≡ chain_ends (shape_of l.s.layout) l.s.layout.pool l.s.words.now l.n.0 (l.k - l.counter)

@@ -11,4 +11,4 @@ page-requires-clause-n_lt_pool c =
     let a = c.args in
     let e = ap (λ (h : RowPageIndexNodeHeader). h.count) c.header-h.ensures in
     let some = eqb-false c.header-h.result.count 0 (sym c.is_empty.ensures ∙ c.if-is_empty.false) in
-    (c.requires.leaf.inside, omega (arith, c.place_of-i.ensures, c.requires.leaf.many, e, place-below (shape_of a.l) a.s.now a.n.0 a.row.0 c.header-h.result.count (omega (arith, some))))
+    (c.requires.leaf.inside, omega (arith, c.place_of-i.ensures, c.requires.leaf.many, e, place-below (shape_of a.s.layout) a.s.words.now a.n.0 a.row.0 c.header-h.result.count (omega (arith, some))))

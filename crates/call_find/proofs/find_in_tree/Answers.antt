@@ -12,11 +12,11 @@ use Rattle.call_find.proofs.find_in_tree.Goals as goal
 pub find_in_leaf-requires-clause-leaf : goal.find_in_leaf-requires-clause-leaf
 find_in_leaf-requires-clause-leaf c =
     let a = c.args in
-    is_leaf (to_row (shape_of a.l) a.s.now a.row.0) (shape_of a.l) a.l.pool a.s.now _ _ a.root.0 c.requires.root_lt_pool (sym c.find_leaf.ensures ∙ ap reached_of c.in_ok-reached.was)
+    is_leaf (to_row (shape_of a.s.layout) a.s.words.now a.row.0) (shape_of a.s.layout) a.s.layout.pool a.s.words.now _ _ a.root.0 c.requires.root_lt_pool (sym c.find_leaf.ensures ∙ ap reached_of c.in_ok-reached.was)
 
 pub returns : goal.returns
 returns c =
     let a = c.args in
     let above = lt_fails a.row.0 c.header-h.result.start_row_id.0 (sym c.lt.ensures ∙ c.if-lt.false) in
     c.find_in_leaf.ensures _
-    ∙ sym (inside (shape_of a.l) a.l.pool a.s.now a.root.0 a.row.0 (omega (arith, above, ap (λ (h : RowPageIndexNodeHeader). h.start_row_id.0) c.header-h.ensures)) ∙ ap (found_in (shape_of a.l) a.s.now a.row.0) (sym c.find_leaf.ensures ∙ ap reached_of c.in_ok-reached.was))
+    ∙ sym (inside (shape_of a.s.layout) a.s.layout.pool a.s.words.now a.root.0 a.row.0 (omega (arith, above, ap (λ (h : RowPageIndexNodeHeader). h.start_row_id.0) c.header-h.ensures)) ∙ ap (found_in (shape_of a.s.layout) a.s.words.now a.row.0) (sym c.find_leaf.ensures ∙ ap reached_of c.in_ok-reached.was))

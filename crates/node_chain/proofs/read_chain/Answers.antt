@@ -28,8 +28,8 @@ unfolding occ
 header-requires c =
     let a = c.args in
     let g = sym c.is_link.ensures ∙ c.if-not-is_link.false in
-    let p = link_of (shape_of a.l) a.l.pool a.s.now c.loop-i.n.0 [] g refl in
-    record { fits = c.requires.fits; n_lt_pool = p.inside }
+    let p = link_of (shape_of a.s.layout) a.s.layout.pool a.s.words.now c.loop-i.n.0 [] g refl in
+    p.inside
 
 pub loop-i-preserved : goal.loop-i-preserved
 unfolding past

@@ -23,8 +23,8 @@ loop-i-preserved c =
     let b : at.i < a.count = omega (arith, end, c.loop-i-test.true) in
     let some : 1 ≤ a.count = omega arith in
     elim c.if-le.branch [
-      | then-le w ↦ rw w.place-is (moved (shape_of a.l) a.s.now a.n.0 a.count some p.n_lt_pool.2 a.q.0 a.step at.place at.i at.invariant b (omega (arith, r, le_holds c.row.result.0 a.q.0 (sym c.le.ensures ∙ w.if-le.true))))
-      | else-le w ↦ rw w.place-is (kept (shape_of a.l) a.s.now a.n.0 a.count some p.n_lt_pool.2 a.q.0 a.step at.place at.i at.invariant p.le_step.0 b (omega (arith, r, le_fails c.row.result.0 a.q.0 (sym c.le.ensures ∙ w.if-le.false))))
+      | then-le w ↦ rw w.place-is (moved (shape_of a.s.layout) a.s.words.now a.n.0 a.count some p.n_lt_pool.2 a.q.0 a.step at.place at.i at.invariant b (omega (arith, r, le_holds c.row.result.0 a.q.0 (sym c.le.ensures ∙ w.if-le.true))))
+      | else-le w ↦ rw w.place-is (kept (shape_of a.s.layout) a.s.words.now a.n.0 a.count some p.n_lt_pool.2 a.q.0 a.step at.place at.i at.invariant p.le_step.0 b (omega (arith, r, le_fails c.row.result.0 a.q.0 (sym c.le.ensures ∙ w.if-le.false))))
     ]
 
 -- the last row looked at
@@ -37,13 +37,13 @@ returns-after-le c =
     let end = c.min-end.ensures in
     let b : at.i < a.count = omega (arith, end, c.loop-i-test.true) in
     let some : 1 ≤ a.count = omega arith in
-    let below = place-below (shape_of a.l) a.s.now a.n.0 a.q.0 a.count some in
-    let next : Looked (shape_of a.l) a.s.now a.q.0 a.n.0 a.count a.step c.if-le.place (at.i + a.step) =
+    let below = place-below (shape_of a.s.layout) a.s.words.now a.n.0 a.q.0 a.count some in
+    let next : Looked (shape_of a.s.layout) a.s.words.now a.q.0 a.n.0 a.count a.step c.if-le.place (at.i + a.step) =
     elim c.if-le.branch [
-      | then-le w ↦ rw w.place-is (moved (shape_of a.l) a.s.now a.n.0 a.count some p.n_lt_pool.2 a.q.0 a.step at.place at.i at.invariant b (omega (arith, r, le_holds c.row.result.0 a.q.0 (sym c.le.ensures ∙ w.if-le.true))))
-      | else-le w ↦ rw w.place-is (kept (shape_of a.l) a.s.now a.n.0 a.count some p.n_lt_pool.2 a.q.0 a.step at.place at.i at.invariant p.le_step.0 b (omega (arith, r, le_fails c.row.result.0 a.q.0 (sym c.le.ensures ∙ w.if-le.false))))
+      | then-le w ↦ rw w.place-is (moved (shape_of a.s.layout) a.s.words.now a.n.0 a.count some p.n_lt_pool.2 a.q.0 a.step at.place at.i at.invariant b (omega (arith, r, le_holds c.row.result.0 a.q.0 (sym c.le.ensures ∙ w.if-le.true))))
+      | else-le w ↦ rw w.place-is (kept (shape_of a.s.layout) a.s.words.now a.n.0 a.count some p.n_lt_pool.2 a.q.0 a.step at.place at.i at.invariant p.le_step.0 b (omega (arith, r, le_fails c.row.result.0 a.q.0 (sym c.le.ensures ∙ w.if-le.false))))
     ] in
-    found (shape_of a.l) a.s.now a.n.0 a.count some p.n_lt_pool.2 a.q.0 a.step c.if-le.place (at.i + a.step) next c.min-end.result (omega (arith, below, end, p.lies_in.before)) (omega arith)
+    found (shape_of a.s.layout) a.s.words.now a.n.0 a.count some p.n_lt_pool.2 a.q.0 a.step c.if-le.place (at.i + a.step) next c.min-end.result (omega (arith, below, end, p.lies_in.before)) (omega arith)
 
 pub returns : goal.returns
 returns c =
@@ -52,5 +52,5 @@ returns c =
     let at = c.loop-i in
     let end = c.min-end.ensures in
     let some : 1 ≤ a.count = omega arith in
-    let below = place-below (shape_of a.l) a.s.now a.n.0 a.q.0 a.count some in
-    found (shape_of a.l) a.s.now a.n.0 a.count some p.n_lt_pool.2 a.q.0 a.step at.place at.i at.invariant _ (omega (arith, below, end, p.lies_in.before)) c.loop-i-test.false
+    let below = place-below (shape_of a.s.layout) a.s.words.now a.n.0 a.q.0 a.count some in
+    found (shape_of a.s.layout) a.s.words.now a.n.0 a.count some p.n_lt_pool.2 a.q.0 a.step at.place at.i at.invariant _ (omega (arith, below, end, p.lies_in.before)) c.loop-i-test.false

@@ -12,7 +12,7 @@ pub loop-i-init : goal.loop-i-init
 loop-i-init c = rw (ap (λ (h : RowPageIndexNodeHeader). h.height) c.header-levels.ensures, sub-zero) (first _ _ _ _ _ c.requires.positions_len.1 c.requires.sound_top)
 
 pub copy_at-requires : goal.copy_at-requires
-copy_at-requires c = let g = c.loop-i.invariant in record { fits = c.requires.fits; asked = (g.inside, (own g).2, (own g).0, omega arith) }
+copy_at-requires c = let g = c.loop-i.invariant in record { asked = (g.inside, (own g).2, (own g).0, omega arith) }
 
 pub returns-in_err-child : goal.returns-in_err-child
 unfolding Collapses

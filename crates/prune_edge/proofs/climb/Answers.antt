@@ -23,15 +23,15 @@ pub bounds-edge-above : goal.bounds-edge-above
 bounds-edge-above c = let x = c.loop-edge.invariant in omega (arith, x.low, x.climbed.long, depth_low x.climbed, c.loop-edge-test.true)
 
 pub header-requires : goal.header-requires
-header-requires c = let x = c.loop-edge.invariant in record { fits = c.requires.fits; n_lt_pool = node_in x.climbed }
+header-requires c = let x = c.loop-edge.invariant in record { n_lt_pool = node_in x.climbed }
 
 pub returns-then-top-header : goal.returns-then-top-header
 unfolding Climbs
-returns-then-top-header c = λ e n d. topped e n _ _ _ _ _ c.requires.fits c.loop-edge.invariant (λ m. absurd (omega (arith, m, c.if-top-header.true, ap (λ (h : RowPageIndexNodeHeader). h.count) c.header.ensures))) d
+returns-then-top-header c = λ e n d. topped e n _ _ _ _ _ c.args.s.fits c.loop-edge.invariant (λ m. absurd (omega (arith, m, c.if-top-header.true, ap (λ (h : RowPageIndexNodeHeader). h.count) c.header.ensures))) d
 
 pub loop-edge-preserved : goal.loop-edge-preserved
 loop-edge-preserved c = step c.loop-edge.invariant c.loop-edge-test.true (omega (arith, c.if-top-header.false, ap (λ (h : RowPageIndexNodeHeader). h.count) c.header.ensures))
 
 pub returns : goal.returns
 unfolding Climbs
-returns c = let x = c.loop-edge.invariant in λ e n d. topped e n _ _ _ _ _ c.requires.fits x (λ m. omega (arith, x.climbed.deep, c.loop-edge-test.false)) d
+returns c = let x = c.loop-edge.invariant in λ e n d. topped e n _ _ _ _ _ c.args.s.fits x (λ m. omega (arith, x.climbed.deep, c.loop-edge-test.false)) d

@@ -7,7 +7,7 @@ use Rattle.prune_list.proofs.Scanning.{Scanning}
 use Rattle.prune_list.proofs.scan_below.Given as goal
 
 abbrev pub invariant-loop-named : goal.invariant-loop-named
-invariant-loop-named l = Scanning (shape_of l.l) l.l.pool l.s l.end.0 l.fn.node.0 l.ids (below_scan l.l l.s l.end l.fn.node l.ids l.fn.from.place l.fn.from.reached) l.walk l.named.place l.named.reached.0 l.used l.left
+invariant-loop-named l = Scanning (shape_of l.s.layout) l.s.layout.pool l.s.words.now l.end.0 l.fn.node.0 l.ids (below_scan l.s.layout l.s.words.now l.end l.fn.node l.ids l.fn.from.place l.fn.from.reached) l.walk l.named.place l.named.reached.0 l.used l.left
 
 abbrev pub decreases-loop-named : goal.decreases-loop-named
-decreases-loop-named l = length (left false (shape_of l.l) l.l.pool l.s l.walk.path)
+decreases-loop-named l = length (left false (shape_of l.s.layout) l.s.layout.pool l.s.words.now l.walk.path)

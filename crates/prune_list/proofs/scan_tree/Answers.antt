@@ -15,20 +15,20 @@ use Rattle.prune_list.proofs.scan_tree.Goals as goal
 pub scan_node-requires : goal.scan_node-requires
 scan_node-requires c =
     let a = c.args in
-    let C = shape_of a.l in
-    let w = a.s.now in
+    let C = shape_of a.s.layout in
+    let w = a.s.words.now in
     let n = a.root.0 in
     let f = passes-fits false C w n (height C w n) (start C w n) Open c.requires.passed_root.2 in
-    record { fits = c.requires.fits; n_lt_pool = (c.requires.passed_root.0, f.1) }
+    record { n_lt_pool = (c.requires.passed_root.0, f.1) }
 
 pub scan_below-requires : goal.scan_below-requires
 scan_below-requires c =
     let a = c.args in
     let p = c.requires in
-    let C = shape_of a.l in
-    let w = a.s.now in
+    let C = shape_of a.s.layout in
+    let w = a.s.words.now in
     let n = a.root.0 in
-    record { fits = c.requires.fits; valid = root-valid false C a.l.pool w n p.passed_root.1 p.passed_root.0 p.passed_root.2; first_value = p.first_value; begun = (root-passed C a.l.pool w a.end.0 n p.passed_root.0 p.passed_root.2, root-last C a.l.pool w a.end.0 n p.passed_root.0 p.passed_root.2 a.ids.now _ _ c.in_ok-named.ensures p.ids_nonzero) }
+    record { valid = root-valid false C a.s.layout.pool w n p.passed_root.1 p.passed_root.0 p.passed_root.2; first_value = p.first_value; begun = (root-passed C a.s.layout.pool w a.end.0 n p.passed_root.0 p.passed_root.2, root-last C a.s.layout.pool w a.end.0 n p.passed_root.0 p.passed_root.2 a.ids.now _ _ c.in_ok-named.ensures p.ids_nonzero) }
 
 pub returns-in_err-named : goal.returns-in_err-named
 unfolding Ending
@@ -36,16 +36,16 @@ returns-in_err-named c =
     let a = c.args in
     let q = c.requires.passed_root in
     let p = err_from_is_err_and c.from_residual.result c.from_residual.ensures.1 in
-    record { answer = rw (p.1, p.2) (tree-stopped (shape_of a.l) a.l.pool a.s.now a.end.0 a.root.0 q.0 q.2 a.ids.now (refusal c.in_err-named.field-0.0) c.in_err-named.ensures); edge = rw p.1 tt }
+    record { answer = rw (p.1, p.2) (tree-stopped (shape_of a.s.layout) a.s.layout.pool a.s.words.now a.end.0 a.root.0 q.0 q.2 a.ids.now (refusal c.in_err-named.field-0.0) c.in_err-named.ensures); edge = rw p.1 tt }
 
 pub returns : goal.returns
 returns c =
     let a = c.args in
-    let C = shape_of a.l in
-    let w = a.s.now in
+    let C = shape_of a.s.layout in
+    let w = a.s.words.now in
     let n = a.root.0 in record {
       answer = c.scan_below.ensures.answer
-          ∙ ap (λ (x : Scan). ran_out a.end.0 (scan C w a.end.0 (below false C a.l.pool w n) x)) c.in_ok-named.ensures
-          ∙ ap (ran_out a.end.0) (sym (tree-scan C a.l.pool w a.end.0 n c.requires.passed_root.0 c.requires.passed_root.2 (on a.ids.now 0 0)));
+          ∙ ap (λ (x : Scan). ran_out a.end.0 (scan C w a.end.0 (below false C a.s.layout.pool w n) x)) c.in_ok-named.ensures
+          ∙ ap (ran_out a.end.0) (sym (tree-scan C a.s.layout.pool w a.end.0 n c.requires.passed_root.0 c.requires.passed_root.2 (on a.ids.now 0 0)));
       edge = c.scan_below.ensures.edge;
     }

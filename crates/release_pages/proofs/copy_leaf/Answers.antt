@@ -9,4 +9,4 @@ pub loop-i-preserved : goal.loop-i-preserved
 loop-i-preserved c =
     let a = c.args in
     let x = c.loop-i in
-    rw c.page.ensures (x.invariant.0 ∙ fill_more (shape_of a.l) a.s.now a.n.0 x.pages a.at x.i _ c.loop-i-test.true, length-set x.pages (a.at + x.i) _ ∙ x.invariant.1)
+    rw c.page.ensures (x.invariant.0 ∙ fill_more (shape_of a.s.layout) a.s.words.now a.n.0 x.pages a.at x.i _ c.loop-i-test.true, length-set x.pages (a.at + x.i) _ ∙ x.invariant.1)

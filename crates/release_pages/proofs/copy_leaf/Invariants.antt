@@ -7,4 +7,4 @@ use Rattle.release_pages.specs.Pages.{pages_from}
 use Rattle.release_pages.proofs.copy_leaf.Given as goal
 
 abbrev pub invariant-loop-i : goal.invariant-loop-i
-invariant-loop-i l = (fill l.initial.pages l.at (pages_from (shape_of l.l) l.s l.n.0 0 l.h.count) ≡ fill l.pages (l.at + l.i) (pages_from (shape_of l.l) l.s l.n.0 l.i (l.h.count - l.i))) × (length l.pages ≡ length l.initial.pages)
+invariant-loop-i l = (fill l.initial.pages l.at (pages_from (shape_of l.s.layout) l.s.words.now l.n.0 0 l.h.count) ≡ fill l.pages (l.at + l.i) (pages_from (shape_of l.s.layout) l.s.words.now l.n.0 l.i (l.h.count - l.i))) × (length l.pages ≡ length l.initial.pages)

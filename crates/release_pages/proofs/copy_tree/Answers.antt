@@ -7,17 +7,17 @@ use Rattle.release_pages.proofs.Taking.{start-taking, all-taken, leaf_room, take
 use Rattle.release_pages.proofs.copy_tree.Goals as goal
 
 pub loop-path-init : goal.loop-path-init
-loop-path-init c = let a = c.args in rw c.rooted-path.ensures (start-taking (shape_of a.l) a.l.pool a.s.now a.node.0 a.pages.now c.requires.releasable c.requires.node_in_bounds, refl)
+loop-path-init c = let a = c.args in rw c.rooted-path.ensures (start-taking (shape_of a.s.layout) a.s.layout.pool a.s.words.now a.node.0 a.pages.now c.requires.releasable c.requires.node_in_bounds, refl)
 
 pub untested-requires : goal.untested-requires
-untested-requires c = let t = at_top (sure c.loop-path.invariant.0.walk) c.loop-path-test.true in record { fits = c.requires.releasable.header; node_lt_pool = rw c.last-top.ensures (t.inside, t.narrow) }
+untested-requires c = let t = at_top (sure c.loop-path.invariant.0.walk) c.loop-path-test.true in record { node_lt_pool = rw c.last-top.ensures (t.inside, t.narrow) }
 
 pub copy_leaf-place-requires : goal.copy_leaf-place-requires
 copy_leaf-place-requires c =
     let x = c.loop-path.invariant.0 in
     let z = c.loop-path-test.true in
     let t = at_top (sure x.walk) z in
-    record { fits = c.requires.releasable.header; n_lt_pool = rw c.last-top.ensures (t.inside, t.narrow, leaf_room x z (sym c.in-None.is ∙ rw c.last-top.ensures at c.untested.ensures)) }
+    record { n_lt_pool = rw c.last-top.ensures (t.inside, t.narrow, leaf_room x z (sym c.in-None.is ∙ rw c.last-top.ensures at c.untested.ensures)) }
 
 pub loop-path-smaller-in-None : goal.loop-path-smaller-in-None
 loop-path-smaller-in-None c = rw c.leave.ensures (takes_out c.loop-path.invariant.0 c.loop-path-test.true (sym c.in-None.is ∙ rw c.last-top.ensures at c.untested.ensures)).less

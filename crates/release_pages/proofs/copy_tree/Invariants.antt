@@ -10,7 +10,7 @@ use Rattle.release_pages.proofs.Taking.{Taking}
 use Rattle.release_pages.proofs.copy_tree.Given as goal
 
 abbrev pub invariant-loop-path : goal.invariant-loop-path
-invariant-loop-path l = Taking (shape_of l.l) l.l.pool l.s (fill l.initial.pages 0 (page_ids (root_entries (shape_of l.l) l.s (last_of l.initial.path).node.0))) l.path l.pages l.place × (length l.pages ≡ length l.initial.pages)
+invariant-loop-path l = Taking (shape_of l.s.layout) l.s.layout.pool l.s.words.now (fill l.initial.pages 0 (page_ids (root_entries (shape_of l.s.layout) l.s.words.now (last_of l.initial.path).node.0))) l.path l.pages l.place × (length l.pages ≡ length l.initial.pages)
 
 abbrev pub decreases-loop-path : goal.decreases-loop-path
-decreases-loop-path l = length (left false (shape_of l.l) l.l.pool l.s l.path)
+decreases-loop-path l = length (left false (shape_of l.s.layout) l.s.layout.pool l.s.words.now l.path)

@@ -7,7 +7,7 @@ use Rattle.tree_survey.proofs.WithEnds.{start-both, both-up, both-down}
 use Rattle.tree_survey.proofs.survey_below.Goals as goal
 
 pub loop-walk-init : goal.loop-walk-init
-loop-walk-init c = let a = c.args in rw c.rooted-walk.ensures (start-both (shape_of a.l) a.l.pool a.s.now a.node.0 a.first _ _ c.requires.valid c.requires.first_value)
+loop-walk-init c = let a = c.args in rw c.rooted-walk.ensures (start-both (shape_of a.s.layout) a.s.layout.pool a.s.words.now a.node.0 a.first _ _ c.requires.valid c.requires.first_value)
 
 pub loop-walk-preserved-in-Ok-None : goal.loop-walk-preserved-in-Ok-None
 loop-walk-preserved-in-Ok-None c = both-up c.loop-walk.invariant (omega (arith, eqb-false _ _ (sym c.is_over.ensures ∙ c.loop-walk-test.true))) (rw c.in-Ok-None.field-0-is at c.in-Ok-None.ensures)

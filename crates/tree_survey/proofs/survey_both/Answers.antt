@@ -4,8 +4,8 @@ use Rattle.node_read.specs.Layout.{shape_of}
 use Rattle.law_formed.proofs.Rooted.{empty_of}
 use Rattle.tree_survey.proofs.survey_both.Goals as goal
 
-pub count_node-requires-clause-n_lt_pool : goal.count_node-requires-clause-n_lt_pool
-count_node-requires-clause-n_lt_pool c =
+pub count_node-requires : goal.count_node-requires
+count_node-requires c =
     let a = c.args in
-    let z = empty_of (shape_of a.l) a.s.now a.root.0 (sym c.is_empty_root.ensures ∙ c.if-is_empty_root.true) in
-    (c.requires.root_lt_pool, omega (arith, z.none))
+    let z = empty_of (shape_of a.s.layout) a.s.words.now a.root.0 (sym c.is_empty_root.ensures ∙ c.if-is_empty_root.true) in
+    record { n_lt_pool = (c.requires.root_lt_pool, omega (arith, z.none)) }

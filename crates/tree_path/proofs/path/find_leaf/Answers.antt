@@ -10,18 +10,18 @@ use Rattle.tree_path.proofs.Down.{root_empty, root-high, root-path}
 use Rattle.tree_path.proofs.path.find_leaf.Goals as goal
 
 pub returns-then-is_empty_root : goal.returns-then-is_empty_root
-returns-then-is_empty_root c = let a = c.args in sym (root_empty (to_row (shape_of a.l) a.s.now a.sought.0) (shape_of a.l) a.l.pool a.s.now a.root.0 (sym c.is_empty_root.ensures ∙ c.if-is_empty_root.true))
+returns-then-is_empty_root c = let a = c.args in sym (root_empty (to_row (shape_of a.s.layout) a.s.words.now a.sought.0) (shape_of a.s.layout) a.s.layout.pool a.s.words.now a.root.0 (sym c.is_empty_root.ensures ∙ c.if-is_empty_root.true))
 
 pub returns-then-not-is_in_height : goal.returns-then-not-is_in_height
 returns-then-not-is_in_height c =
     let a = c.args in
-    let lo : leb (height (shape_of a.l) a.s.now a.root.0) max_height ≡ false = sym (ap (λ (h : RowPageIndexNodeHeader). leb h.height max_height) c.header-h.ensures) ∙ sym c.is_in_height.ensures ∙ c.if-not-is_in_height.true in
-    sym (root-high (to_row (shape_of a.l) a.s.now a.sought.0) (shape_of a.l) a.l.pool a.s.now a.root.0 (sym c.is_empty_root.ensures ∙ c.if-is_empty_root.false) lo)
+    let lo : leb (height (shape_of a.s.layout) a.s.words.now a.root.0) max_height ≡ false = sym (ap (λ (h : RowPageIndexNodeHeader). leb h.height max_height) c.header-h.ensures) ∙ sym c.is_in_height.ensures ∙ c.if-not-is_in_height.true in
+    sym (root-high (to_row (shape_of a.s.layout) a.s.words.now a.sought.0) (shape_of a.s.layout) a.s.layout.pool a.s.words.now a.root.0 (sym c.is_empty_root.ensures ∙ c.if-is_empty_root.false) lo)
 
 pub returns : goal.returns
 returns c =
     let a = c.args in
-    let hi : leb (height (shape_of a.l) a.s.now a.root.0) max_height ≡ true = sym (ap (λ (h : RowPageIndexNodeHeader). leb h.height max_height) c.header-h.ensures) ∙ sym c.is_in_height.ensures ∙ c.if-not-is_in_height.false in
+    let hi : leb (height (shape_of a.s.layout) a.s.words.now a.root.0) max_height ≡ true = sym (ap (λ (h : RowPageIndexNodeHeader). leb h.height max_height) c.header-h.ensures) ∙ sym c.is_in_height.ensures ∙ c.if-not-is_in_height.false in
     c.find_below.ensures
-    ∙ ap (λ (h : RowPageIndexNodeHeader). descend (to_row (shape_of a.l) a.s.now a.sought.0) (shape_of a.l) a.l.pool a.s.now h.height a.root.0 a.root.0 h.start_row_id.0 Open) c.header-h.ensures
-    ∙ sym (root-path (to_row (shape_of a.l) a.s.now a.sought.0) (shape_of a.l) a.l.pool a.s.now a.root.0 (sym c.is_empty_root.ensures ∙ c.if-is_empty_root.false) hi)
+    ∙ ap (λ (h : RowPageIndexNodeHeader). descend (to_row (shape_of a.s.layout) a.s.words.now a.sought.0) (shape_of a.s.layout) a.s.layout.pool a.s.words.now h.height a.root.0 a.root.0 h.start_row_id.0 Open) c.header-h.ensures
+    ∙ sym (root-path (to_row (shape_of a.s.layout) a.s.words.now a.sought.0) (shape_of a.s.layout) a.s.layout.pool a.s.words.now a.root.0 (sym c.is_empty_root.ensures ∙ c.if-is_empty_root.false) hi)

@@ -1,4 +1,4 @@
-use Rattle.node_read.proofs.layout.Layout.header.Goals as goal
+use Rattle.node_read.proofs.store.Store.header.Goals as goal
 
 -- src/layout.rt:56:5
 pub returns : goal.returns
