@@ -15,6 +15,7 @@ use model::cursor::RowPageIndexMemCursor;
 use model::id::{NodeNo, RowID};
 use next_words;
 use node_read::header;
+use node_read::store::Store;
 use node_test;
 use tree_survey;
 
@@ -51,12 +52,13 @@ pub fn bench_test_node(
     let Ok(h) = header::open(words) else {
         return REFUSED;
     };
-    let l = h.layout;
-    if !l.has_node(NodeNo(node)) {
+    let layout = h.layout;
+    if !layout.has_node(NodeNo(node)) {
         return REFUSED;
     }
     let beyond = limit(bounded, next);
-    node_test::test_node(l, words, NodeNo(node), height, RowID(row), beyond).unwrap_or(UNSOUND)
+    let store = Store { layout, words };
+    node_test::test_node(store, NodeNo(node), height, RowID(row), beyond).unwrap_or(UNSOUND)
 }
 
 // The header test, and a reading of the whole tree: its nodes.
@@ -66,7 +68,8 @@ pub fn bench_survey(words: &[u64], ends: u64) -> u64
     let Ok(h) = header::open(words) else {
         return REFUSED;
     };
-    tree_survey::survey_tree(h.layout, words, ends != 0, h.root).map_or(REFUSED, |k| k.nodes)
+    let layout = h.layout;
+    tree_survey::survey_tree(Store { layout, words }, ends != 0, h.root).map_or(REFUSED, |k| k.nodes)
 }
 
 // The end of the leaf that a step gave.

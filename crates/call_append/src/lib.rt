@@ -20,7 +20,7 @@ use model::id::{NodeNo, PageID, RowID};
 use node_chain;
 use node_read::header;
 use node_read::header::StoreHeader;
-use node_read::store::StoreMut;
+use node_read::store::{Store, StoreMut};
 use tree_right_edge;
 use tree_right_edge::Room;
 
@@ -74,7 +74,8 @@ fn place_page(
         return Ok(done);
     }
     let k = room.needed as usize;
-    let wanted = node_chain::read_chain(layout, &s[..], h.free_head, k)
+    let read = Store { layout, words: &s[..] };
+    let wanted = node_chain::read_chain(read, h.free_head, k)
         .ok_or(Refusal::Unsound(NodeNo::HEADER))?;
     let mut store = StoreMut { layout, words: s };
     let nodes = &wanted.nodes[..k];
@@ -100,9 +101,10 @@ fn insert_after(
     ensures answer { inserted result ≡ (append_to (shape_of h.layout) h.layout.pool s.old h.root.0 count page.0 (leaf last.0 Open)).answer }
     ensures words { s.new ≡ (append_to (shape_of h.layout) h.layout.pool s.old h.root.0 count page.0 (leaf last.0 Open)).words }
 {
-    let l = h.layout;
-    let start = tree_right_edge::range_start(l, &s[..], last);
-    let top = l.header(&s[..], h.root);
+    let layout = h.layout;
+    let store = Store { layout, words: &s[..] };
+    let start = tree_right_edge::range_start(store, last);
+    let top = store.header(h.root);
     append_limits::test_limits(start, count, top.height, free.needed, h.free_count)?;
     let end = RowID(start.0 + count);
     place_page(s, h, top.height, NewPage { start, end, page }, free)
@@ -119,6 +121,7 @@ pub fn insert_row_page(
     ensures words { s.new ≡ (insert_row_page lent s.old count page.0).words }
 {
     let h = header::open(&s[..])?;
-    let edge = tree_right_edge::right_edge(h.layout, &s[..], h.root)?;
+    let layout = h.layout;
+    let edge = tree_right_edge::right_edge(Store { layout, words: &s[..] }, h.root)?;
     insert_after(s, h, edge.leaf, edge.room, count, page)
 }

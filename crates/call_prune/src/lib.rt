@@ -15,6 +15,7 @@ use model::answer::{Refusal, RowPagePrefixPrune};
 use model::id::RowID;
 use node_read::header;
 use node_read::header::StoreHeader;
+use node_read::store::Store;
 use node_root;
 use node_test;
 use prune_cut;
@@ -34,7 +35,9 @@ fn prune_named(
     ensures answer { pruned result ≡ (cut_at_in h s.old end.0 prefix.entries).answer }
     ensures words { s.new ≡ (cut_at_in h s.old end.0 prefix.entries).words }
 {
-    let boundary = prune_edge::find_edge(h.layout, &s[..], prefix.path, prefix.used, prefix.left);
+    let layout = h.layout;
+    let store = Store { layout, words: &s[..] };
+    let boundary = prune_edge::find_edge(store, prefix.path, prefix.used, prefix.left);
     prune_cut::prune_edge(h, s, end, prefix.entries, boundary)
 }
 
@@ -53,20 +56,21 @@ fn prune_filled(
     ensures answer { pruned result ≡ (prune_in h s.old start.0 end.0 ids.now).answer }
     ensures words { s.new ≡ (prune_in h s.old start.0 end.0 ids.now).words }
 {
-    let l = h.layout;
+    let layout = h.layout;
+    let store = Store { layout, words: &s[..] };
     let root = h.root;
-    let head = l.header(&s[..], root);
+    let head = store.header(root);
     let begin = head.start_row_id;
     if !head.is_in_height() {
         return Err(Refusal::Unsound(root));
     }
-    let Some(first) = node_test::test_node(l, &s[..], root, head.height, begin, None) else {
+    let Some(first) = node_test::test_node(store, root, head.height, begin, None) else {
         return Err(Refusal::Unsound(root));
     };
     if start != begin {
         return Err(Refusal::StartDiffers(begin));
     }
-    let prefix = prune_list::scan_tree(l, &s[..], root, first, end, ids)?;
+    let prefix = prune_list::scan_tree(store, root, first, end, ids)?;
     prune_named(h, s, end, prefix)
 }
 
@@ -84,10 +88,12 @@ fn prune_open(
     ensures answer { pruned result ≡ (prune_in h s.old start.0 end.0 ids.now).answer }
     ensures words { s.new ≡ (prune_in h s.old start.0 end.0 ids.now).words }
 {
-    if !node_root::is_empty_root(h.layout, &s[..], h.root) {
+    let layout = h.layout;
+    let store = Store { layout, words: &s[..] };
+    if !node_root::is_empty_root(store, h.root) {
         return prune_filled(h, s, start, end, ids);
     }
-    let top = h.layout.header(&s[..], h.root);
+    let top = store.header(h.root);
     if start != top.start_row_id {
         return Err(Refusal::StartDiffers(top.start_row_id));
     }

@@ -55,8 +55,9 @@ pub fn destroy(s: &mut [u64], pivot: RowID, pages: &mut [u64]) -> Result<Release
     let h = header::open(&s[..])?;
     let layout = h.layout;
     let root = h.root;
-    let counts = tree_survey::survey_tree(layout, &s[..], false, root)?;
-    if let Some(first) = first_below(layout, &s[..], root, counts.entries, pivot) {
+    let read = Store { layout, words: &s[..] };
+    let counts = tree_survey::survey_tree(read, false, root)?;
+    if let Some(first) = first_below(read, root, counts.entries, pivot) {
         return Err(Refusal::RowBelowPivot(first));
     }
     if (pages.len() as u64) < counts.entries {

@@ -11,7 +11,7 @@ use model::answer::{Refusal, Released};
 use model::id::{NodeNo, RowID};
 use node_chain;
 use node_read::header;
-use node_read::store::StoreMut;
+use node_read::store::{Store, StoreMut};
 use node_root;
 use node_write::write;
 
@@ -24,10 +24,11 @@ pub fn destroy_empty(s: &mut [u64]) -> Result<Released, Refusal>
     let h = header::open(&s[..])?;
     let layout = h.layout;
     let root = h.root;
-    if !node_root::is_sound_root(layout, &s[..], root) {
+    let read = Store { layout, words: &s[..] };
+    if !node_root::is_sound_root(read, root) {
         return Err(Refusal::Unsound(root));
     }
-    if !node_root::is_empty_root(layout, &s[..], root) {
+    if !node_root::is_empty_root(read, root) {
         return Err(Refusal::RowBelowPivot(RowID(0)));
     }
     if layout.pool < h.free_count + 1 {

@@ -14,7 +14,7 @@ ghost use Rattle.prune_cut.specs.Writable.{Resettable, Writable, cut_words, rese
 use model::answer::{Refusal, RowPagePrefixPrune};
 use model::id::{NodeNo, RowID};
 use node_read::header::StoreHeader;
-use node_read::store::StoreMut;
+use node_read::store::{Store, StoreMut};
 use node_write::write;
 use prune_collapse;
 use prune_edge::Boundary;
@@ -81,13 +81,13 @@ fn prune_some(
     ensures answer { pruned result ≡ (cut_in h s.old end.0 k b.edge).answer }
     ensures words { s.new ≡ (cut_in h s.old end.0 k b.edge).words }
 {
-    let copies = prune_collapse::find_copies(h.layout, &s[..], h.root, b.edge)?;
+    let layout = h.layout;
+    let copies = prune_collapse::find_copies(Store { layout, words: &s[..] }, h.root, b.edge)?;
     let levels = copies.count as u64;
     let freed = b.gone + levels;
     if h.layout.pool - h.free_count < freed {
         return Err(Refusal::Unsound(NodeNo::HEADER));
     }
-    let layout = h.layout;
     let mut store = StoreMut { layout, words: s };
     write_edge(&mut store, h.root, end, b, &copies.nodes[..copies.count]);
     Ok(RowPagePrefixPrune {
@@ -110,7 +110,9 @@ pub fn prune_edge(
     ensures words { s.new ≡ (cut_at_in h s.old end.0 k).words }
 {
     let last = b.edge.positions[b.edge.depth - 1];
-    if h.layout.header(&s[..], last.node).count <= last.index {
+    let layout = h.layout;
+    let store = Store { layout, words: &s[..] };
+    if store.header(last.node).count <= last.index {
         return prune_all(h, s, end, k, b);
     }
     prune_some(h, s, end, k, b)

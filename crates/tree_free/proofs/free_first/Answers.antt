@@ -15,8 +15,8 @@ loop-freed-init c =
 pub last-top-requires : goal.last-top-requires
 last-top-requires c = let f = c.loop-freed.invariant.1 in (some_depth f c.loop-freed-test.true, omega (arith, f.long))
 
-pub untested-requires-clause-node_lt_pool : goal.untested-requires-clause-node_lt_pool
-untested-requires-clause-node_lt_pool c = rw (c.last-top.ensures, c.read.ensures, c.loop-freed.invariant.0.layout) (last_in_lem c.loop-freed.invariant.1 c.loop-freed-test.true)
+pub untested-requires : goal.untested-requires
+untested-requires c = record { node_lt_pool = rw (c.last-top.ensures, c.read.ensures.layout, c.read.ensures.words, c.loop-freed.invariant.0.layout) (last_in_lem c.loop-freed.invariant.1 c.loop-freed-test.true) }
 
 pub free_node-requires : goal.free_node-requires
 free_node-requires c =
@@ -24,7 +24,7 @@ free_node-requires c =
     record { n_lt_pool = (rw (c.last-top.ensures, c.loop-freed.invariant.0.layout) (last_in_lem f c.loop-freed-test.true).0, omega (arith, f.room, f.many)) }
 
 pub loop-freed-smaller-in-None : goal.loop-freed-smaller-in-None
-loop-freed-smaller-in-None c = rw c.leave.ensures (less-out c.loop-freed.invariant.1 c.loop-freed-test.true (sym c.in-None.is ∙ rw (c.last-top.ensures, c.read.ensures, c.loop-freed.invariant.0.layout) at c.untested.ensures))
+loop-freed-smaller-in-None c = rw c.leave.ensures (less-out c.loop-freed.invariant.1 c.loop-freed-test.true (sym c.in-None.is ∙ rw (c.last-top.ensures, c.read.ensures.layout, c.read.ensures.words, c.loop-freed.invariant.0.layout) at c.untested.ensures))
 
 pub leave-requires : goal.leave-requires
 leave-requires c = some_depth c.loop-freed.invariant.1 c.loop-freed-test.true
@@ -33,19 +33,19 @@ pub loop-freed-preserved-in-None : goal.loop-freed-preserved-in-None
 loop-freed-preserved-in-None c =
     let k = c.loop-freed.invariant.0.layout in
     let e = rw (c.last-top.ensures, k) at c.free_node.ensures.words in
-    (search rules, rw (c.leave.ensures, e) (goes-out c.loop-freed.invariant.1 c.loop-freed-test.true (sym c.in-None.is ∙ rw (c.last-top.ensures, c.read.ensures, k) at c.untested.ensures)))
+    (search rules, rw (c.leave.ensures, e) (goes-out c.loop-freed.invariant.1 c.loop-freed-test.true (sym c.in-None.is ∙ rw (c.last-top.ensures, c.read.ensures.layout, c.read.ensures.words, k) at c.untested.ensures)))
 
 pub enter-requires : goal.enter-requires
 enter-requires c =
     let f = c.loop-freed.invariant.1 in
-    let r = room_in f c.loop-freed-test.true _ (sym c.in-Some.is ∙ rw (c.last-top.ensures, c.read.ensures, c.loop-freed.invariant.0.layout) at c.untested.ensures) in
+    let r = room_in f c.loop-freed-test.true _ (sym c.in-Some.is ∙ rw (c.last-top.ensures, c.read.ensures.layout, c.read.ensures.words, c.loop-freed.invariant.0.layout) at c.untested.ensures) in
     record { depth = (some_depth f c.loop-freed-test.true, omega (arith, r.0, f.long)); index = omega (arith, r.1, f.header.cap-high) }
 
 pub loop-freed-smaller : goal.loop-freed-smaller
-loop-freed-smaller c = rw c.enter.ensures (less_in c.loop-freed.invariant.1 c.loop-freed-test.true _ (sym c.in-Some.is ∙ rw (c.last-top.ensures, c.read.ensures, c.loop-freed.invariant.0.layout) at c.untested.ensures))
+loop-freed-smaller c = rw c.enter.ensures (less_in c.loop-freed.invariant.1 c.loop-freed-test.true _ (sym c.in-Some.is ∙ rw (c.last-top.ensures, c.read.ensures.layout, c.read.ensures.words, c.loop-freed.invariant.0.layout) at c.untested.ensures))
 
 pub loop-freed-preserved : goal.loop-freed-preserved
-loop-freed-preserved c = (c.loop-freed.invariant.0, rw c.enter.ensures (goes_in c.loop-freed.invariant.1 c.loop-freed-test.true _ (sym c.in-Some.is ∙ rw (c.last-top.ensures, c.read.ensures, c.loop-freed.invariant.0.layout) at c.untested.ensures)))
+loop-freed-preserved c = (c.loop-freed.invariant.0, rw c.enter.ensures (goes_in c.loop-freed.invariant.1 c.loop-freed-test.true _ (sym c.in-Some.is ∙ rw (c.last-top.ensures, c.read.ensures.layout, c.read.ensures.words, c.loop-freed.invariant.0.layout) at c.untested.ensures)))
 
 pub returns-clause-words : goal.returns-clause-words
 returns-clause-words c = rw c.rooted-path.ensures at (enough c.loop-freed.invariant.1 c.loop-freed-test.false)
