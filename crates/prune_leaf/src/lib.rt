@@ -39,7 +39,7 @@ pub fn scan_node(
     from: Progress,
 ) -> Result<Progress, Refusal>
     requires n_lt_pool { (n.0 < s.layout.pool) × (count (shape_of s.layout) s.words.now n.0 ≤ s.layout.capacity) }
-    ensures { progress_of ids.entry.words.now result ≡ node_scan s.entry.layout s.entry.words.now end.0 n.0 ids.entry.words.now from.place from.reached.0 }
+    ensures { progress_of ids.now result ≡ node_scan s.entry.layout s.entry.words.now end.0 n.0 ids.now from.place from.reached.0 }
 {
     let h = s.header(n);
     if !h.is_leaf() {
