@@ -13,15 +13,7 @@ use node_read::store::Store;
 
 // The place of q lies in a part of so many entries from low on: the start of a part of step entries that it lies in. Every
 // step-th row is looked at, and no branch depends on one: the processor would guess it wrong half of the time.
-fn narrow(
-    s: Store<'_>,
-    n: NodeNo,
-    count: u64,
-    q: RowID,
-    low: u64,
-    width: u64,
-    step: u64,
-) -> u64
+fn narrow(s: Store<'_>, n: NodeNo, count: u64, q: RowID, low: u64, width: u64, step: u64) -> u64
     requires n_lt_pool { (n.0 < s.layout.pool) × (count ≤ s.layout.capacity) × T (rising (pairs_from (shape_of s.layout) s.words.now (λ (x : ℕ). x) n.0 0 count)) }
     requires le_step { (1 ≤ step) × (step ≤ 4096) × (width ≤ 4096) × (low < count) }
     requires lies_in { LiesIn (shape_of s.layout) s.words.now q.0 n.0 count low width }

@@ -47,12 +47,7 @@ pub fn range_start(s: Store<'_>, n: NodeNo) -> RowID
 // From a root of this height that starts at this row. The positions are stored to in place; what is next stays open on
 // the right edge.
 #[tactic(auto, using(crate::proofs::Turns::edge_steps))]
-fn go_down(
-    s: Store<'_>,
-    root: NodeNo,
-    height: u64,
-    row: RowID,
-) -> Result<RightEdge, UnsoundNode>
+fn go_down(s: Store<'_>, root: NodeNo, height: u64, row: RowID) -> Result<RightEdge, UnsoundNode>
     requires height_le_max_height { height ≤ max_height }
     ensures { Descended (shape_of s.entry.layout) s.entry.layout.pool s.entry.words.now height root.0 row.0 result }
 {

@@ -8,7 +8,7 @@ narrow-requires c =
     let a = c.args in
     let p = c.requires in
     let lies = lies_in-all (shape_of a.s.layout) a.s.words.now a.n.0 a.q.0 a.count p.n_lt_pool.1 in
-    record { n_lt_pool = (p.n_lt_pool.0, p.n_lt_pool.2, p.n_lt_pool.3); le_step = (omega arith, omega arith, omega (arith, p.fits.cap-high), begins (shape_of a.s.layout) a.s.words.now a.n.0 a.q.0 a.count _ _ p.n_lt_pool.1 lies); lies_in = lies }
+    record { n_lt_pool = (p.n_lt_pool.0, p.n_lt_pool.2, p.n_lt_pool.3); le_step = (omega arith, omega arith, omega (arith, a.s.fits.cap-high), begins (shape_of a.s.layout) a.s.words.now a.n.0 a.q.0 a.count _ _ p.n_lt_pool.1 lies); lies_in = lies }
 
 pub returns-then-count-le16 : goal.returns-then-count-le16
 returns-then-count-le16 c = omega (arith, c.narrow.ensures.from, c.narrow.ensures.before)
@@ -18,21 +18,21 @@ narrow-part-requires c =
     let a = c.args in
     let p = c.requires in
     let lies = lies_in-all (shape_of a.s.layout) a.s.words.now a.n.0 a.q.0 a.count p.n_lt_pool.1 in
-    record { n_lt_pool = (p.n_lt_pool.0, p.n_lt_pool.2, p.n_lt_pool.3); le_step = (omega arith, omega arith, omega (arith, p.fits.cap-high), begins (shape_of a.s.layout) a.s.words.now a.n.0 a.q.0 a.count _ _ p.n_lt_pool.1 lies); lies_in = lies }
+    record { n_lt_pool = (p.n_lt_pool.0, p.n_lt_pool.2, p.n_lt_pool.3); le_step = (omega arith, omega arith, omega (arith, a.s.fits.cap-high), begins (shape_of a.s.layout) a.s.words.now a.n.0 a.q.0 a.count _ _ p.n_lt_pool.1 lies); lies_in = lies }
 
 pub narrow-few-requires : goal.narrow-few-requires
 narrow-few-requires c =
     let a = c.args in
     let p = c.requires in
     let lies = c.narrow-part.ensures in
-    record { n_lt_pool = (p.n_lt_pool.0, p.n_lt_pool.2, p.n_lt_pool.3); le_step = (omega arith, omega arith, omega (arith, p.fits.cap-high), begins (shape_of a.s.layout) a.s.words.now a.n.0 a.q.0 a.count _ _ p.n_lt_pool.1 lies); lies_in = lies }
+    record { n_lt_pool = (p.n_lt_pool.0, p.n_lt_pool.2, p.n_lt_pool.3); le_step = (omega arith, omega arith, omega (arith, a.s.fits.cap-high), begins (shape_of a.s.layout) a.s.words.now a.n.0 a.q.0 a.count _ _ p.n_lt_pool.1 lies); lies_in = lies }
 
 pub narrow-requires-2 : goal.narrow-requires-2
 narrow-requires-2 c =
     let a = c.args in
     let p = c.requires in
     let lies = c.narrow-few.ensures in
-    record { n_lt_pool = (p.n_lt_pool.0, p.n_lt_pool.2, p.n_lt_pool.3); le_step = (omega arith, omega arith, omega (arith, p.fits.cap-high), begins (shape_of a.s.layout) a.s.words.now a.n.0 a.q.0 a.count _ _ p.n_lt_pool.1 lies); lies_in = lies }
+    record { n_lt_pool = (p.n_lt_pool.0, p.n_lt_pool.2, p.n_lt_pool.3); le_step = (omega arith, omega arith, omega (arith, a.s.fits.cap-high), begins (shape_of a.s.layout) a.s.words.now a.n.0 a.q.0 a.count _ _ p.n_lt_pool.1 lies); lies_in = lies }
 
 pub returns : goal.returns
 returns c = omega (arith, c.narrow-2.ensures.from, c.narrow-2.ensures.before)

@@ -14,20 +14,20 @@ returns-then-h-eq0 c =
     let x = c in
     let k = ap (λ (y : RowPageIndexNodeHeader). y.count) c.header-head.ensures in
     let good = sym c.is_sound.ensures ∙ c.if-not-is_sound.false in
-    arrives x.loop-l.invariant (ltb-true _ _ (sym c.has_node.ensures ∙ c.if-not-has_node.false)) good x.requires.height_le_max_height _ (ap (λ (y : ℕ). y - 1) k) (room_of c.if-not-full.room)
+    arrives x.loop-positions.invariant (ltb-true _ _ (sym c.has_node.ensures ∙ c.if-not-has_node.false)) good x.requires.height_le_max_height _ (ap (λ (y : ℕ). y - 1) k) (room_of c.if-not-full.room)
     (elim c.if-not-full.branch [
       | then-not-full v ↦ ap room_of v.room-is ∙ has_room _ _ _ _ _ _ _ c.is_full-full.ensures k (ap not v.if-not-full.true)
       | else-not-full v ↦ ap room_of v.room-is ∙ no_room _ _ _ _ _ _ _ c.is_full-full.ensures k (ap not v.if-not-full.false)
     ])
     c.if-h-eq0.true _ refl refl refl
 
-pub loop-l-preserved : goal.loop-l-preserved
-loop-l-preserved c =
+pub loop-positions-preserved : goal.loop-positions-preserved
+loop-positions-preserved c =
     let x = c in
     let k = ap (λ (y : RowPageIndexNodeHeader). y.count) c.header-head.ensures in
     let good = sym c.is_sound.ensures ∙ c.if-not-is_sound.false in
     rw (c.child-n.ensures, c.row-r.ensures)
-    (goes_on x.loop-l.invariant (ltb-true _ _ (sym c.has_node.ensures ∙ c.if-not-has_node.false)) good x.requires.height_le_max_height _ (ap (λ (y : ℕ). y - 1) k) (room_of c.if-not-full.room)
+    (goes_on x.loop-positions.invariant (ltb-true _ _ (sym c.has_node.ensures ∙ c.if-not-has_node.false)) good x.requires.height_le_max_height _ (ap (λ (y : ℕ). y - 1) k) (room_of c.if-not-full.room)
     (elim c.if-not-full.branch [
       | then-not-full v ↦ ap room_of v.room-is ∙ has_room _ _ _ _ _ _ _ c.is_full-full.ensures k (ap not v.if-not-full.true)
       | else-not-full v ↦ ap room_of v.room-is ∙ no_room _ _ _ _ _ _ _ c.is_full-full.ensures k (ap not v.if-not-full.false)

@@ -70,7 +70,7 @@ row-r-requires c =
     let z : at.below - 1 + 1 ≡ at.below = omega (arith, c.loop-below-test.true) in
     let good = sym (rw z at c.is_sound.ensures) ∙ c.if-not-is_sound.false in
     let e = ap (λ (y : RowPageIndexNodeHeader). y.count) c.header-head.ensures in
-    record { n_lt_pool = ((ltb-true _ _ (sym c.has_node.ensures ∙ c.if-not-has_node.false)), omega (arith, e, many C w at.n.0 at.below at.r.0 (limit_of at.next) good _ e, within C w at.n.0 at.below at.r.0 (limit_of at.next) good _ e q _ c.place_of-index.ensures)) }
+    ((ltb-true _ _ (sym c.has_node.ensures ∙ c.if-not-has_node.false)), omega (arith, e, many C w at.n.0 at.below at.r.0 (limit_of at.next) good _ e, within C w at.n.0 at.below at.r.0 (limit_of at.next) good _ e q _ c.place_of-index.ensures))
 
 pub child-n-requires : goal.child-n-requires
 child-n-requires c =
@@ -83,7 +83,7 @@ child-n-requires c =
     let z : at.below - 1 + 1 ≡ at.below = omega (arith, c.loop-below-test.true) in
     let good = sym (rw z at c.is_sound.ensures) ∙ c.if-not-is_sound.false in
     let e = ap (λ (y : RowPageIndexNodeHeader). y.count) c.header-head.ensures in
-    record { n_lt_pool = ((ltb-true _ _ (sym c.has_node.ensures ∙ c.if-not-has_node.false)), omega (arith, e, many C w at.n.0 at.below at.r.0 (limit_of at.next) good _ e, within C w at.n.0 at.below at.r.0 (limit_of at.next) good _ e q _ c.place_of-index.ensures)) }
+    ((ltb-true _ _ (sym c.has_node.ensures ∙ c.if-not-has_node.false)), omega (arith, e, many C w at.n.0 at.below at.r.0 (limit_of at.next) good _ e, within C w at.n.0 at.below at.r.0 (limit_of at.next) good _ e q _ c.place_of-index.ensures))
 
 pub loop-below-preserved : goal.loop-below-preserved
 loop-below-preserved c =
