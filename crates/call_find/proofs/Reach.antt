@@ -1,16 +1,14 @@
 -- A leaf that a path reaches can be searched; the lookup by cases.
 use Prim.Native.Nat.{ℕ, ◌<◌, ◌≤◌}
-use mathlib.Core.List.{List, [], ◌∷◌}
-use mathlib.Core.Bool.{and-false}
+use mathlib.Core.List.{List}
 use mathlib.Core.Path.{◌≡◌, sym, ◌∙◌}
 use mathlib.Core.Logic.{⊎_elim}
 use native.Mathlib.Omega.{arith}
 use lib.Dec.{T}
-use borrow.Author.Tests.{lt-ltb, le-ltb}
-use Rattle.model.specs.Words.{Shape, pick, count, start, end, child}
-use Rattle.model.specs.Tree.{Limit, pairs_from, rising, root_sound}
+use borrow.Author.Tests.{le-ltb}
+use Rattle.model.specs.Words.{Shape, count, start}
+use Rattle.model.specs.Tree.{Limit, pairs_from, rising}
 use Rattle.model.specs.Reading.{leaf, root_leaf, to_row}
-use Rattle.model.specs.Refusals.{result, refused}
 use Rattle.model.specs.Lookup.{found_in, find_in_tree}
 use Rattle.model.proofs.Tests.{holds}
 use Rattle.node_test.proofs.Rows.{facts, sound_if}

@@ -15,7 +15,6 @@ use model::answer::Refusal;
 use model::id::{NodeNo, PageID, RowID};
 use node_place;
 use node_read::header;
-use node_read::layout::Layout;
 use node_read::store::Store;
 use node_root;
 use tree_path::path;
@@ -60,5 +59,7 @@ pub fn try_find_row(s: &[u64], row: RowID) -> Result<Option<PageID>, Refusal>
     ensures { location result ≡ try_find_row lent s.now row.0 }
 {
     let h = header::open(s)?;
-    find_in_tree(h.layout, s, h.root, row)
+    let layout = h.layout;
+    let store = Store { layout, words: s };
+    find_in_tree(store, h.root, row)
 }

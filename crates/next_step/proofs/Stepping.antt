@@ -1,22 +1,22 @@
 -- The answers of the step by value, and the definition of next by cases.
 use Prim.Native.Nat.{ℕ, ◌<◌, ◌≤◌}
-use mathlib.Core.List.{List, []}
+use mathlib.Core.List.{List}
 use mathlib.Core.Bool.{true, false}
 use mathlib.Core.Path.{◌≡◌, sym, ap, ◌∙◌, subst}
 use native.Mathlib.Omega.{arith}
 use lib.ListN.{length}
 use borrow.Author.Tests.{lt-ltb, le-ltb}
 use Rattle.std.specs.Prelude.{Option, Some, None, Result, Ok, Err}
-use Rattle.model.specs.Words.{store_shape, lent, capacity, pool, root}
-use Rattle.model.specs.Reading.{leaf, root_leaf, to_row}
-use Rattle.model.specs.Refusals.{Answer, result, refused, refusal}
+use Rattle.model.specs.Words.{lent, capacity}
+use Rattle.model.specs.Reading.{root_leaf, to_row}
+use Rattle.model.specs.Refusals.{Answer, refusal}
 use Rattle.model.specs.LeafWalk.{Stepped, given, next_leaf_of}
 use Rattle.model.specs.declared.answer.Refusal.{Refusal}
 use Rattle.model.specs.declared.answer.Refusal.TheVariants.{ListTooShort, Unsound}
 use Rattle.model.specs.declared.answer.UnsoundNode.{UnsoundNode}
 use Rattle.model.specs.declared.node.PageEntry.{PageEntry}
 use Rattle.model.specs.declared.cursor.RowPageIndexMemCursor.{RowPageIndexMemCursor}
-use Rattle.node_read.specs.Layout.{shape_of, Fits, opened}
+use Rattle.node_read.specs.Layout.{shape_of, opened}
 use Rattle.node_read.specs.declared.header.StoreHeader.{StoreHeader}
 use Rattle.node_read.proofs.Opened.{IsOpen, is-refused, goes_on, opens-fits}
 use Rattle.node_test.specs.Test.{limit_of}
@@ -26,7 +26,7 @@ use Rattle.call_find.specs.Leaf.{IsLeaf}
 use Rattle.call_find.proofs.Reach.{is_leaf}
 use Rattle.next_records.specs.Listing.{Readable}
 use Rattle.next_step.specs.declared.LeafStep.{LeafStep}
-use Rattle.next_step.specs.Steps.{Steps, gives, on_list}
+use Rattle.next_step.specs.Steps.{Steps, gives}
 
 -- nothing moves
 abbrev pub still : RowPageIndexMemCursor → List PageEntry → Answer → Stepped

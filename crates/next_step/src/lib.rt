@@ -40,7 +40,7 @@ fn give(s: Store<'_>, n: NodeNo, next: Option<RowID>) -> LeafStep
         },
         cursor: RowPageIndexMemCursor { row_id: end, done },
         entries: LeafEntries {
-            layout: l,
+            layout: s.layout,
             leaf: n,
             count: h.count as usize,
         },
@@ -56,16 +56,17 @@ pub fn step(
     ensures { Steps s.now cursor len result }
 {
     let h = header::open(s)?;
-    let l = h.layout;
-    let capacity = l.capacity;
+    let layout = h.layout;
+    let capacity = layout.capacity;
     if (len as u64) < capacity {
         return Err(Refusal::ListTooShort(capacity));
     }
     if cursor.done {
         return Ok(None);
     }
-    let reached = path::find_leaf(l, s, h.root, cursor.row_id)?;
-    Ok(Some(give(l, s, reached.leaf, reached.next)))
+    let store = Store { layout, words: s };
+    let reached = path::find_leaf(store, h.root, cursor.row_id)?;
+    Ok(Some(give(store, reached.leaf, reached.next)))
 }
 
 // A cursor sought to a row.

@@ -6,8 +6,8 @@ use Rattle.node_read.specs.Layout.{shape_of}
 use Rattle.node_place.proofs.Places.{place-below}
 use Rattle.call_find.proofs.find_in_leaf.Goals as goal
 
-pub page-requires-clause-n_lt_pool : goal.page-requires-clause-n_lt_pool
-page-requires-clause-n_lt_pool c =
+pub page-requires : goal.page-requires
+page-requires c =
     let a = c.args in
     let e = ap (λ (h : RowPageIndexNodeHeader). h.count) c.header-h.ensures in
     let some = eqb-false c.header-h.result.count 0 (sym c.is_empty.ensures ∙ c.if-is_empty.false) in

@@ -9,10 +9,10 @@ use Rattle.tree_path.specs.Reached.{reached_of}
 use Rattle.call_find.proofs.Reach.{is_leaf, inside}
 use Rattle.call_find.proofs.find_in_tree.Goals as goal
 
-pub find_in_leaf-requires-clause-leaf : goal.find_in_leaf-requires-clause-leaf
-find_in_leaf-requires-clause-leaf c =
+pub find_in_leaf-requires : goal.find_in_leaf-requires
+find_in_leaf-requires c =
     let a = c.args in
-    is_leaf (to_row (shape_of a.s.layout) a.s.words.now a.row.0) (shape_of a.s.layout) a.s.layout.pool a.s.words.now _ _ a.root.0 c.requires.root_lt_pool (sym c.find_leaf.ensures ∙ ap reached_of c.in_ok-reached.was)
+    record { leaf = is_leaf (to_row (shape_of a.s.layout) a.s.words.now a.row.0) (shape_of a.s.layout) a.s.layout.pool a.s.words.now _ _ a.root.0 c.requires.root_lt_pool (sym c.find_leaf.ensures ∙ ap reached_of c.in_ok-reached.was) }
 
 pub returns : goal.returns
 returns c =

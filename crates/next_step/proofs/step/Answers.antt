@@ -1,7 +1,6 @@
 use mathlib.Core.Path.{◌∙◌, sym, ap, subst}
-use Rattle.std.specs.Prelude.{Option, Some, Result, Ok}
+use Rattle.std.specs.Prelude.{Some, Ok}
 use Rattle.std.proofs.lemmas.Result.{err_from_is_err_and}
-use Rattle.model.specs.declared.answer.Refusal.{Refusal}
 use Rattle.node_read.proofs.Opened.{is_open, opens-fits}
 use Rattle.tree_path.specs.Reached.{reached_of}
 use Rattle.next_step.specs.declared.LeafStep.{LeafStep}
@@ -25,11 +24,16 @@ returns-then-cursor c =
     let a = c.args in
     steps-done a.s.now a.cursor a.len _ (is_open a.s.now _ (sym c.«open».ensures ∙ c.in_ok-h.was)) c.if-len-capacity.false c.if-cursor.true
 
+pub invariant_of-store : goal.invariant_of-store
+invariant_of-store c =
+    let a = c.args in
+    record { fits = (opens-fits a.s.now _ (is_open a.s.now _ (sym c.«open».ensures ∙ c.in_ok-h.was))).0 }
+
 pub find_leaf-requires : goal.find_leaf-requires
 find_leaf-requires c =
     let a = c.args in
     let f = opens-fits a.s.now _ (is_open a.s.now _ (sym c.«open».ensures ∙ c.in_ok-h.was)) in
-    record { fits = f.0; root_lt_pool = f.1 }
+    record { root_lt_pool = f.1 }
 
 pub returns-in_err-reached : goal.returns-in_err-reached
 returns-in_err-reached c =
@@ -42,7 +46,7 @@ pub give-requires : goal.give-requires
 give-requires c =
     let a = c.args in
     let o = is_open a.s.now _ (sym c.«open».ensures ∙ c.in_ok-h.was) in
-    record { fits = (opens-fits a.s.now _ o).0; n_lt_pool = leaf_in a.s.now a.cursor a.len _ o c.if-len-capacity.false c.if-cursor.false _ (ap reached_of (sym c.in_ok-reached.was) ∙ c.find_leaf.ensures) }
+    record { n_lt_pool = leaf_in a.s.now a.cursor a.len _ o c.if-len-capacity.false c.if-cursor.false _ (ap reached_of (sym c.in_ok-reached.was) ∙ c.find_leaf.ensures) }
 
 pub returns : goal.returns
 returns c =
