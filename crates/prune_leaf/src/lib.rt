@@ -10,7 +10,6 @@ ghost use Rattle.prune_leaf.specs.Progress.{EndsAt, named_of, node_scan, progres
 
 use model::answer::Refusal;
 use model::id::{NodeNo, PageID, RowID};
-use node_read::layout::Layout;
 use node_read::store::Store;
 
 // How many ids are named so far, and where the last entry of them ends.
@@ -39,7 +38,7 @@ pub fn scan_node(
     from: Progress,
 ) -> Result<Progress, Refusal>
     requires n_lt_pool { (n.0 < s.layout.pool) × (count (shape_of s.layout) s.words.now n.0 ≤ s.layout.capacity) }
-    ensures { progress_of ids.entry.words.now result ≡ node_scan s.entry.layout s.entry.words.now end.0 n.0 ids.entry.words.now from.place from.reached.0 }
+    ensures { progress_of ids.now result ≡ node_scan s.entry.layout s.entry.words.now end.0 n.0 ids.now from.place from.reached.0 }
 {
     let h = s.header(n);
     if !h.is_leaf() {

@@ -42,8 +42,8 @@ fn scan_below(
 ) -> Result<Prefix, Refusal>
     requires valid { Valid (shape_of s.layout) s.layout.pool s.words.now (height (shape_of s.layout) s.words.now node.0) (entered node.0 ∷ []) }
     requires first_value { first ≡ out_of (shape_of s.layout) s.layout.pool s.words.now (height (shape_of s.layout) s.words.now node.0) node.0 }
-    requires begun { Begun s.layout s.words.now node.0 ids.words.now from.place from.reached.0 }
-    ensures answer { prefix_of end.0 result ≡ below_scan s.entry.layout s.entry.words.now end node ids.entry.words.now from.place from.reached }
+    requires begun { Begun s.layout s.words.now node.0 ids.now from.place from.reached.0 }
+    ensures answer { prefix_of end.0 result ≡ below_scan s.entry.layout s.entry.words.now end node ids.now from.place from.reached }
     ensures edge { Ending (shape_of s.entry.layout) s.entry.layout.pool s.entry.words.now end.0 node.0 result }
 {
     let mut walk = TreeWalk::rooted(node, first);
@@ -82,8 +82,8 @@ pub fn scan_tree(
 ) -> Result<Prefix, Refusal>
     requires passed_root { PassedRoot s.layout s.words.now root.0 }
     requires first_value { first ≡ out_of (shape_of s.layout) s.layout.pool s.words.now (height (shape_of s.layout) s.words.now root.0) root.0 }
-    requires ids_nonzero { 0 < length ids.words.now }
-    ensures answer { prefix_of end.0 result ≡ tree_scan s.entry.layout s.entry.words.now end.0 root.0 ids.entry.words.now }
+    requires ids_nonzero { 0 < length ids.now }
+    ensures answer { prefix_of end.0 result ≡ tree_scan s.entry.layout s.entry.words.now end.0 root.0 ids.now }
     ensures edge { Ending (shape_of s.entry.layout) s.entry.layout.pool s.entry.words.now end.0 root.0 result }
 {
     let none = Progress {
