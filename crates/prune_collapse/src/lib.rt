@@ -24,12 +24,7 @@ pub struct Copies {
 
 // The copy at branch n of this height, of which k entries go: while one entry stays, and it is the last, its child is copied.
 #[tactic(auto, unfolding(crate::specs::Copied::copy_at))]
-fn copy_at(
-    s: Store<'_>,
-    n: NodeNo,
-    height: u64,
-    k: u64,
-) -> Result<Option<NodeNo>, UnsoundNode>
+fn copy_at(s: Store<'_>, n: NodeNo, height: u64, k: u64) -> Result<Option<NodeNo>, UnsoundNode>
     requires asked { Asked s.layout s.words.now n.0 height }
     ensures { result ≡ copy_at (shape_of s.entry.layout) s.entry.layout.pool s.entry.words.now n.0 height k }
 {

@@ -10,7 +10,6 @@ ghost use Rattle.prune_leaf.specs.Progress.{EndsAt, named_of, node_scan, progres
 
 use model::answer::Refusal;
 use model::id::{NodeNo, PageID, RowID};
-use node_read::layout::Layout;
 use node_read::store::Store;
 
 // How many ids are named so far, and where the last entry of them ends.

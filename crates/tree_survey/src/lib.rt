@@ -67,13 +67,7 @@ fn both(l: Layout, nodes: Result<Counts, UnsoundNode>, wrong: NodeNo) -> Surveys
 // What is left below a node that was entered, with the counts and the first wrong end so far. The walk is changed in
 // place: a copy of its path for each node would cost more than the node's test.
 #[tactic(auto, using(crate::proofs::WithEnds::below_turns))]
-fn survey_below(
-    s: Store<'_>,
-    node: NodeNo,
-    first: u64,
-    start: Counts,
-    seen: NodeNo,
-) -> Surveys
+fn survey_below(s: Store<'_>, node: NodeNo, first: u64, start: Counts, seen: NodeNo) -> Surveys
     requires valid { Valid (shape_of s.layout) s.layout.pool s.words.now (height (shape_of s.layout) s.words.now node.0) (entered node.0 ∷ []) }
     requires first_value { first ≡ out_of (shape_of s.layout) s.layout.pool s.words.now (height (shape_of s.layout) s.words.now node.0) node.0 }
     ensures nodes { result.nodes ≡ tally (shape_of s.entry.layout) s.entry.words.now (below false (shape_of s.entry.layout) s.entry.layout.pool s.entry.words.now node.0) start }
@@ -84,7 +78,7 @@ fn survey_below(
     let mut wrong = seen;
     while !walk.is_over() {
         match walk.turn(s) {
-            Err(u) => return both(l, Err(u), wrong),
+            Err(u) => return both(s.layout, Err(u), wrong),
             Ok(None) => {}
             Ok(Some(down)) => {
                 counts = tree_tally::count_node(s, down.child, counts);
@@ -92,7 +86,7 @@ fn survey_below(
             }
         }
     }
-    both(l, Ok(counts), wrong)
+    both(s.layout, Ok(counts), wrong)
 }
 
 // Both readings of the whole tree from the root of an open store.
@@ -109,14 +103,14 @@ pub fn survey_both(s: Store<'_>, root: NodeNo) -> Surveys
         entries: 0,
     };
     if node_root::is_empty_root(s, root) {
-        return both(l, Ok(tree_tally::count_node(s, root, zero)), none);
+        return both(s.layout, Ok(tree_tally::count_node(s, root, zero)), none);
     }
     let h = s.header(root);
     if !h.is_in_height() {
-        return both(l, Err(UnsoundNode(root)), none);
+        return both(s.layout, Err(UnsoundNode(root)), none);
     }
     let Some(first) = node_test::test_node(s, root, h.height, h.start_row_id, None) else {
-        return both(l, Err(UnsoundNode(root)), none);
+        return both(s.layout, Err(UnsoundNode(root)), none);
     };
     let counts = tree_tally::count_node(s, root, zero);
     let wrong = look_at_end(s, root, None, none);

@@ -23,7 +23,7 @@ pub bounds-edge-above : goal.bounds-edge-above
 bounds-edge-above c = let x = c.loop-edge.invariant in omega (arith, x.low, x.climbed.long, depth_low x.climbed, c.loop-edge-test.true)
 
 pub header-requires : goal.header-requires
-header-requires c = let x = c.loop-edge.invariant in record { n_lt_pool = node_in x.climbed }
+header-requires c = let x = c.loop-edge.invariant in node_in x.climbed
 
 pub returns-then-top-header : goal.returns-then-top-header
 unfolding Climbs

@@ -29,11 +29,11 @@ loop-named-preserved-in-None c =
     let z = eqb-false _ _ (sym c.is_over.ensures ∙ c.if-is_over.false) in
     rw c.add-left.ensures (scanning_up c.loop-named.invariant c.loop-named-test.true (omega arith) (rw c.in-None.is at c.in_ok-turn.ensures))
 
-pub scan_node-requires-clause-n_lt_pool : goal.scan_node-requires-clause-n_lt_pool
-scan_node-requires-clause-n_lt_pool c =
+pub scan_node-requires : goal.scan_node-requires
+scan_node-requires c =
     let z = eqb-false _ _ (sym c.is_over.ensures ∙ c.if-is_over.false) in
     let q = rw c.in-Some.is at c.in_ok-turn.ensures in
-    narrow c.loop-named.invariant.walking (omega arith) q.tells
+    record { n_lt_pool = narrow c.loop-named.invariant.walking (omega arith) q.tells }
 
 pub returns-in_err-more-in-Some-clause-answer : goal.returns-in_err-more-in-Some-clause-answer
 returns-in_err-more-in-Some-clause-answer c =

@@ -12,10 +12,10 @@ loop-walk-init c = let a = c.args in rw c.rooted-walk.ensures (start-both (shape
 pub loop-walk-preserved-in-Ok-None : goal.loop-walk-preserved-in-Ok-None
 loop-walk-preserved-in-Ok-None c = both-up c.loop-walk.invariant (omega (arith, eqb-false _ _ (sym c.is_over.ensures ∙ c.loop-walk-test.true))) (rw c.in-Ok-None.field-0-is at c.in-Ok-None.ensures)
 
-pub count_node-counts-requires-clause-n_lt_pool : goal.count_node-counts-requires-clause-n_lt_pool
-count_node-counts-requires-clause-n_lt_pool c =
+pub count_node-counts-requires : goal.count_node-counts-requires
+count_node-counts-requires c =
     let q = rw c.in-Ok-Some.field-0-is at c.in-Ok-Some.ensures in
-    narrow c.loop-walk.invariant.walking (omega (arith, eqb-false _ _ (sym c.is_over.ensures ∙ c.loop-walk-test.true))) q.tells
+    record { n_lt_pool = narrow c.loop-walk.invariant.walking (omega (arith, eqb-false _ _ (sym c.is_over.ensures ∙ c.loop-walk-test.true))) q.tells }
 
 pub loop-walk-preserved : goal.loop-walk-preserved
 loop-walk-preserved c =
