@@ -21,9 +21,9 @@ returns-in_err-step-clause-ends c =
     let bs = v.rest.now in
     let h : known_length bs ≡ Some c.in-Some.len = sym c.known_length.ensures ∙ c.in-Some.is in
     let goes : (perform (memory_of v.m) (first bs)).goes ≡ false = sym c.step.ensures.goes ∙ ap is_ok c.in_err-step.was in
-    let few : length v.m.words.now ≤ 4096 = omega (arith, v.invariant.4, x.requires.0) in
-    let room : v.out.at + 65536 ≤ length v.out.bytes.now = omega (arith, v.invariant.3, c.loop-out-test.true) in
-    ended c.from_residual.result (stopped bs h few (omega arith) room c.step.ensures.does x.args.out.now (memory_of x.args.m.now) x.args.bytes.now v.invariant.2 v.invariant.8 goes)
+    let few : length v.m.words.now ≤ 4096 = omega (arith, v.invariant.words_many, x.requires.0) in
+    let room : v.out.at + 65536 ≤ length v.out.bytes.now = omega (arith, v.invariant.within, c.loop-out-test.true) in
+    ended c.from_residual.result (stopped bs h few (omega arith) room c.step.ensures.does x.args.out.now (memory_of x.args.m.now) x.args.bytes.now v.invariant.after v.invariant.says goes)
 
 pub returns-in_err-step-clause-bounds : goal.returns-in_err-step-clause-bounds
 returns-in_err-step-clause-bounds c =
@@ -31,8 +31,8 @@ returns-in_err-step-clause-bounds c =
     let v = c.loop-out in
     let bs = v.rest.now in
     let h : known_length bs ≡ Some c.in-Some.len = sym c.known_length.ensures ∙ c.in-Some.is in
-    let few : length v.m.words.now ≤ 4096 = omega (arith, v.invariant.4, x.requires.0) in
-    let room : v.out.at + 65536 ≤ length v.out.bytes.now = omega (arith, v.invariant.3, c.loop-out-test.true) in
+    let few : length v.m.words.now ≤ 4096 = omega (arith, v.invariant.words_many, x.requires.0) in
+    let room : v.out.at + 65536 ≤ length v.out.bytes.now = omega (arith, v.invariant.within, c.loop-out-test.true) in
     let p = placed bs h few (omega arith) room c.step.ensures.does in
     (IfOk-from_err c.from_residual.result _ c.from_residual.ensures.0, p.1)
 
@@ -62,22 +62,23 @@ loop-out-preserved c =
     let n = c.in-Some.len in
     let h : known_length bs ≡ Some n = sym c.known_length.ensures ∙ c.in-Some.is in
     let goes : (perform (memory_of v.m) (first bs)).goes ≡ true = sym c.step.ensures.goes ∙ ap is_ok c.in_ok-step.was in
-    let few : length v.m.words.now ≤ 4096 = omega (arith, v.invariant.4, x.requires.0) in
-    let room : v.out.at + 65536 ≤ length v.out.bytes.now = omega (arith, v.invariant.3, c.loop-out-test.true) in
+    let few : length v.m.words.now ≤ 4096 = omega (arith, v.invariant.words_many, x.requires.0) in
+    let room : v.out.at + 65536 ≤ length v.out.bytes.now = omega (arith, v.invariant.within, c.loop-out-test.true) in
     let d = c.step.ensures.does in
     let p = placed bs h few (omega arith) room d in
     let fits = goes-fits (memory_of v.m) bs n h goes in
-    let e = part_to_end bs n in (
-      d.lent ∙ v.invariant.0,
-      d.puts.lent ∙ v.invariant.1,
-      omega (arith, p.0, v.invariant.2),
-      p.1,
-      d.many ∙ v.invariant.4,
-      same d.puts.puts ∙ v.invariant.5,
-      omega (arith, left bs fits e, v.invariant.6),
-      behind bs fits e x.args.bytes.now v.invariant.6 v.invariant.7,
-      went bs h few (omega arith) room d x.args.out.now (memory_of x.args.m.now) x.args.bytes.now v.invariant.2 v.invariant.8 goes _ e,
-    )
+    let e = part_to_end bs n in
+    record {
+      words_lent = d.lent ∙ v.invariant.words_lent;
+      bytes_lent = d.puts.lent ∙ v.invariant.bytes_lent;
+      after = omega (arith, p.0, v.invariant.after);
+      within = p.1;
+      words_many = d.many ∙ v.invariant.words_many;
+      bytes_many = same d.puts.puts ∙ v.invariant.bytes_many;
+      left = omega (arith, left bs fits e, v.invariant.left);
+      taken = behind bs fits e x.args.bytes.now v.invariant.left v.invariant.taken;
+      says = went bs h few (omega arith) room d x.args.out.now (memory_of x.args.m.now) x.args.bytes.now v.invariant.after v.invariant.says goes _ e;
+    }
 
 pub slice_bounds-rest-start : goal.slice_bounds-rest-start
 slice_bounds-rest-start c =
@@ -92,4 +93,4 @@ pub returns-in_err-step-clause-sizes : goal.returns-in_err-step-clause-sizes
 returns-in_err-step-clause-sizes c =
     let v = c.loop-out in
     let d = c.step.ensures.does in
-    (d.many ∙ v.invariant.4, same d.puts.puts ∙ v.invariant.5)
+    (d.many ∙ v.invariant.words_many, same d.puts.puts ∙ v.invariant.bytes_many)
