@@ -6,6 +6,7 @@ use Rattle.model.specs.Refusals.{next_leaf}
 use Rattle.model.specs.LeafWalk.{Stepped, cursor_at, is_last, next_leaf_of}
 use Rattle.model.specs.declared.id.NodeNo.{NodeNo}
 use Rattle.model.specs.declared.node.PageEntry.{PageEntry}
+use Rattle.model.specs.declared.answer.Leaf.{Leaf}
 use Rattle.model.specs.declared.answer.Refusal.{Refusal}
 use Rattle.model.specs.declared.id.RowID.{RowID}
 use Rattle.model.specs.declared.cursor.RowPageIndexMemCursor.{RowPageIndexMemCursor}

@@ -3,18 +3,15 @@ use Prim.Native.Nat.{ℕ, zero, suc, ◌+◌, ◌*◌, ◌/◌, ◌≤◌, ◌<�
 use mathlib.Core.Path.{◌≡◌, refl, sym, ◌∙◌, ap, subst}
 use mathlib.Core.List.{List, [], ◌∷◌}
 use native.Mathlib.Omega.{arith}
-use native.Mathlib.Numerals.{add-one}
-use lib.ListN.{length, set, take, get_or}
-use lib.Seq.{take-suc, length-take-le}
+use lib.ListN.{length}
 use Rattle.model.specs.Words.{lent, shape, fill, row, child, pair_words, Header}
-use Rattle.std.specs.Prelude.{Option, Some, None, Result, Ok}
+use Rattle.std.specs.Prelude.{Option, Some, Result, Ok}
 use Rattle.model.specs.LeafWalk.{Stepped, records, next_leaf_of}
 use Rattle.model.specs.Refusals.{next_leaf}
 use Rattle.model.specs.declared.answer.Leaf.{Leaf}
 use Rattle.model.specs.declared.answer.Refusal.{Refusal}
 use Rattle.model.specs.declared.cursor.RowPageIndexMemCursor.{RowPageIndexMemCursor}
 use Rattle.model.specs.declared.node.PageEntry.{PageEntry}
-use Rattle.model.proofs.Fill.{fill_snoc}
 use Rattle.model.proofs.Parts.{pair_first}
 use Rattle.node_read.specs.Layout.{shape_of, Fits}
 use Rattle.next_records.specs.Listing.{records_of}

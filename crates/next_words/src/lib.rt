@@ -13,6 +13,7 @@ use model::answer::{Leaf, Refusal};
 use model::cursor::RowPageIndexMemCursor;
 use next_records::LeafEntries;
 use next_step;
+use node_read::store::Store;
 
 // The answer, and the cursor afterwards.
 #[derive(Clone, Copy)]
@@ -49,7 +50,9 @@ fn copy_words(s: &[u64], out: &mut [u64], e: LeafEntries)
     if e.count == 0 {
         return;
     }
-    copy_front(e.layout.entries(s, e.leaf, e.count as u64), out);
+    let layout = e.layout;
+    let store = Store { layout, words: s };
+    copy_front(store.entries(e.leaf, e.count as u64), out);
 }
 
 // `next` with a list of words in place of the list of records: two words to a record.

@@ -11,10 +11,11 @@ pub returns-then-e-eq0 : goal.returns-then-e-eq0
 returns-then-e-eq0 c =
     let a = c.args in no_pairs a.out.now a.s.now a.e c.if-e-eq0.true
 
+pub invariant_of-store : goal.invariant_of-store
+invariant_of-store c = record { fits = (c.requires.0 (omega (arith, c.if-e-eq0.false))).0 }
+
 pub entries-requires : goal.entries-requires
-entries-requires c =
-    let both = c.requires.0 (omega (arith, c.if-e-eq0.false)) in
-    record { fits = both.0; n_lt_pool = both.1 }
+entries-requires c = (c.requires.0 (omega (arith, c.if-e-eq0.false))).1
 
 pub copy_front-requires : goal.copy_front-requires
 copy_front-requires c =

@@ -1,8 +1,8 @@
-use mathlib.Core.Path.{◌∙◌, ap, refl, subst}
+use mathlib.Core.Path.{◌∙◌, ap, subst}
 use native.Mathlib.Omega.{arith}
 use Prim.Native.Nat.{◌/◌}
 use lib.ListN.{length}
-use Rattle.std.specs.Prelude.{Option, Some, None, Result, Ok, Err}
+use Rattle.std.specs.Prelude.{Option, None, Result, Ok, Err}
 use Rattle.model.specs.declared.answer.Refusal.{Refusal}
 use Rattle.next_step.specs.declared.LeafStep.{LeafStep}
 use Rattle.next_step.specs.Steps.{Steps}
