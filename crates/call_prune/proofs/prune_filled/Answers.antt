@@ -21,7 +21,7 @@ pub scan_tree-requires : goal.scan_tree-requires
 scan_tree-requires c =
     let a = c.args in
     let g = good _ _ _ _ a.start.0 a.end.0 a.ids.now c.header-head.ensures c.requires.root_value (sym c.is_in_height.ensures ∙ c.if-not-is_in_height.false) (sym c.test_node.ensures ∙ c.in-Some.is) in
-    record { fits = c.requires.in_open.header; passed_root = (c.requires.in_open.inside, high _ _ _ _ a.start.0 a.end.0 a.ids.now c.header-head.ensures c.requires.root_value (sym c.is_in_height.ensures ∙ c.if-not-is_in_height.false) (sym c.test_node.ensures ∙ c.in-Some.is), g.0); first_value = g.1; ids_nonzero = c.requires.ids_nonzero }
+    record { passed_root = (c.requires.in_open.inside, high _ _ _ _ a.start.0 a.end.0 a.ids.now c.header-head.ensures c.requires.root_value (sym c.is_in_height.ensures ∙ c.if-not-is_in_height.false) (sym c.test_node.ensures ∙ c.in-Some.is), g.0); first_value = g.1; ids_nonzero = c.requires.ids_nonzero }
 
 pub returns-in_err-prefix : goal.returns-in_err-prefix
 returns-in_err-prefix c =

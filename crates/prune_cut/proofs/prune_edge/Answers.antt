@@ -17,8 +17,7 @@ bounds-b-b c =
 
 pub header-requires : goal.header-requires
 header-requires c =
-    let p = c.requires in
-    record { fits = p.0.header; n_lt_pool = last_in_lem p.0 p.1 }
+    let p = c.requires in last_in_lem p.0 p.1
 
 pub prune_all-requires : goal.prune_all-requires
 prune_all-requires c =

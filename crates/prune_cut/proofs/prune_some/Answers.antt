@@ -5,7 +5,7 @@ use Rattle.prune_cut.proofs.Edges.{count-few, shaped, none_below, sound-top, som
 use Rattle.prune_cut.proofs.prune_some.Goals as goal
 
 pub find_copies-requires : goal.find_copies-requires
-find_copies-requires c = let p = c.requires in record { fits = p.0.header; positions_len = ((shaped p.0 p.1).2, none_below p.0 p.1); sound_top = sound-top p.0 p.1 }
+find_copies-requires c = let p = c.requires in record { positions_len = ((shaped p.0 p.1).2, none_below p.0 p.1); sound_top = sound-top p.0 p.1 }
 
 pub returns-in_err-copies : goal.returns-in_err-copies
 returns-in_err-copies c =
