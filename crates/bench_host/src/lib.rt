@@ -69,7 +69,8 @@ pub fn bench_survey(words: &[u64], ends: u64) -> u64
         return REFUSED;
     };
     let layout = h.layout;
-    tree_survey::survey_tree(Store { layout, words }, ends != 0, h.root).map_or(REFUSED, |k| k.nodes)
+    let store = Store { layout, words };
+    tree_survey::survey_tree(store, ends != 0, h.root).map_or(REFUSED, |k| k.nodes)
 }
 
 // The end of the leaf that a step gave.

@@ -74,9 +74,9 @@ fn place_page(
         return Ok(done);
     }
     let k = room.needed as usize;
-    let read = Store { layout, words: &s[..] };
-    let wanted = node_chain::read_chain(read, h.free_head, k)
-        .ok_or(Refusal::Unsound(NodeNo::HEADER))?;
+    let read = Store { layout, words: &*s };
+    let wanted = node_chain::read_chain(read, h.free_head, k);
+    let wanted = wanted.ok_or(Refusal::Unsound(NodeNo::HEADER))?;
     let mut store = StoreMut { layout, words: s };
     let nodes = &wanted.nodes[..k];
     grow_tree(&mut store, h.root, root_height, room, new, nodes);
@@ -102,7 +102,7 @@ fn insert_after(
     ensures words { s.new ≡ (append_to (shape_of h.layout) h.layout.pool s.old h.root.0 count page.0 (leaf last.0 Open)).words }
 {
     let layout = h.layout;
-    let store = Store { layout, words: &s[..] };
+    let store = Store { layout, words: &*s };
     let start = tree_right_edge::range_start(store, last);
     let top = store.header(h.root);
     append_limits::test_limits(start, count, top.height, free.needed, h.free_count)?;
@@ -122,6 +122,7 @@ pub fn insert_row_page(
 {
     let h = header::open(&s[..])?;
     let layout = h.layout;
-    let edge = tree_right_edge::right_edge(Store { layout, words: &s[..] }, h.root)?;
+    let store = Store { layout, words: &*s };
+    let edge = tree_right_edge::right_edge(store, h.root)?;
     insert_after(s, h, edge.leaf, edge.room, count, page)
 }

@@ -36,7 +36,7 @@ fn prune_named(
     ensures words { s.new ≡ (cut_at_in h s.old end.0 prefix.entries).words }
 {
     let layout = h.layout;
-    let store = Store { layout, words: &s[..] };
+    let store = Store { layout, words: &*s };
     let boundary = prune_edge::find_edge(store, prefix.path, prefix.used, prefix.left);
     prune_cut::prune_edge(h, s, end, prefix.entries, boundary)
 }
@@ -57,7 +57,7 @@ fn prune_filled(
     ensures words { s.new ≡ (prune_in h s.old start.0 end.0 ids.now).words }
 {
     let layout = h.layout;
-    let store = Store { layout, words: &s[..] };
+    let store = Store { layout, words: &*s };
     let root = h.root;
     let head = store.header(root);
     let begin = head.start_row_id;
@@ -89,7 +89,7 @@ fn prune_open(
     ensures words { s.new ≡ (prune_in h s.old start.0 end.0 ids.now).words }
 {
     let layout = h.layout;
-    let store = Store { layout, words: &s[..] };
+    let store = Store { layout, words: &*s };
     if !node_root::is_empty_root(store, h.root) {
         return prune_filled(h, s, start, end, ids);
     }

@@ -55,7 +55,7 @@ pub fn destroy(s: &mut [u64], pivot: RowID, pages: &mut [u64]) -> Result<Release
     let h = header::open(&s[..])?;
     let layout = h.layout;
     let root = h.root;
-    let read = Store { layout, words: &s[..] };
+    let read = Store { layout, words: &*s };
     let counts = tree_survey::survey_tree(read, false, root)?;
     if let Some(first) = first_below(read, root, counts.entries, pivot) {
         return Err(Refusal::RowBelowPivot(first));

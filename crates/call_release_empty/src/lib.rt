@@ -24,7 +24,7 @@ pub fn destroy_empty(s: &mut [u64]) -> Result<Released, Refusal>
     let h = header::open(&s[..])?;
     let layout = h.layout;
     let root = h.root;
-    let read = Store { layout, words: &s[..] };
+    let read = Store { layout, words: &*s };
     if !node_root::is_sound_root(read, root) {
         return Err(Refusal::Unsound(root));
     }

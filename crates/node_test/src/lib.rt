@@ -101,13 +101,7 @@ fn first_out(s: Store<'_>, n: NodeNo, count: u64) -> u64
 
 // Whether node n is sound at this height, under an entry of this row.
 #[inline(always)]
-pub fn is_sound(
-    s: Store<'_>,
-    n: NodeNo,
-    height: u64,
-    row: RowID,
-    next: Option<RowID>,
-) -> bool
+pub fn is_sound(s: Store<'_>, n: NodeNo, height: u64, row: RowID, next: Option<RowID>) -> bool
     requires n_lt_pool { n.0 < s.layout.pool }
     ensures { result ≡ sound (shape_of s.entry.layout) height (node_at (shape_of s.entry.layout) s.entry.words.now n.0) row.0 (limit_of next) }
 {

@@ -82,7 +82,8 @@ fn prune_some(
     ensures words { s.new ≡ (cut_in h s.old end.0 k b.edge).words }
 {
     let layout = h.layout;
-    let copies = prune_collapse::find_copies(Store { layout, words: &s[..] }, h.root, b.edge)?;
+    let read = Store { layout, words: &*s };
+    let copies = prune_collapse::find_copies(read, h.root, b.edge)?;
     let levels = copies.count as u64;
     let freed = b.gone + levels;
     if h.layout.pool - h.free_count < freed {
@@ -111,7 +112,7 @@ pub fn prune_edge(
 {
     let last = b.edge.positions[b.edge.depth - 1];
     let layout = h.layout;
-    let store = Store { layout, words: &s[..] };
+    let store = Store { layout, words: &*s };
     if store.header(last.node).count <= last.index {
         return prune_all(h, s, end, k, b);
     }

@@ -11,8 +11,8 @@ returns-in_err-h c =
     let q = insert_refused a.s.now a.count a.page.0 _ (sym c.in_err-h.ensures) in
     record { answer = rw (p.1, p.2) (sym (ap (λ (o : Outcome). o.answer) q)); words = sym (ap (λ (o : Outcome). o.words) q) }
 
-pub invariant_of-right_edge : goal.invariant_of-right_edge
-invariant_of-right_edge c = record { fits = (open_fits c.args.s.now _ (sym c.in_ok-h.ensures)).0 }
+pub invariant_of-store : goal.invariant_of-store
+invariant_of-store c = record { fits = (open_fits c.args.s.now _ (sym c.in_ok-h.ensures)).0 }
 
 pub right_edge-requires : goal.right_edge-requires
 right_edge-requires c = record { root_lt_pool = (open_fits c.args.s.now _ (sym c.in_ok-h.ensures)).1 }

@@ -22,9 +22,9 @@ grow_tree-requires-clause-inside c =
     let a = c.args in
     let w = c.in_ok-wanted.wanted in
     let some = c.in_ok-wanted.ensures.ok_part in
-    let given = rw some at c.read_chain.ensures.given in
+    let given = rw some at c.read_chain-wanted.ensures.given in
     let few : a.room.needed ≤ length w.nodes = search rules in
     let f : numbers (take a.room.needed w.nodes) ≡ firsts (shape_of a.h.layout) a.s.now a.h.free_head.0 a.room.needed = nodes_are w.nodes a.room.needed few ∙ given.0 in
-    let t = sym (rw some at c.read_chain.ensures.ok) in
+    let t = sym (rw some at c.read_chain-wanted.ensures.ok) in
     let k : 0 < a.room.needed = omega (arith, c.if-room-eq0.false) in
     (nodes_inside _ _ _ _ _ _ t f, head_apart _ _ _ _ _ _ t f a.h.root.0 k c.requires.usable.high)
