@@ -1,4 +1,4 @@
-// Reading a store: where its words lie, its header, a node, and the node test.
+// Reading a store: where its words lie, its header, and its words lent for reading and for writing.
 
 #![tactic(auto)]
 

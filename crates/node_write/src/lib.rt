@@ -1,4 +1,4 @@
-// Writing a store: a word, a header, an entry, a whole node, the free chain.
+// Writing a store: a word, a node's header, an empty node.
 
 #![tactic(auto)]
 

@@ -29,6 +29,7 @@ fn climb(s: Store<'_>, path: Path, used: u64, left: u64) -> Boundary
     let mut gone = left;
     let at = edge.depth - 1;
     edge.positions[at].index = used;
+    // up the path, which gets shorter: no index is counted
     while 1 < edge.depth {
         let above = edge.depth - 1;
         let top = edge.positions[above];

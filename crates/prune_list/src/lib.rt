@@ -50,6 +50,7 @@ fn scan_below(
     let mut named = from;
     let mut used = from.place as u64;
     let mut left = 0;
+    // up and down the tree: a leaf names several ids, a branch none
     while named.place < ids.len() {
         if walk.is_over() {
             return Err(Refusal::ListTooLong(named.place as u64));

@@ -39,6 +39,7 @@ pub fn copy_tree(s: Store<'_>, node: NodeNo, pages: &mut [u64])
 {
     let mut path = Path::rooted(node);
     let mut place: usize = 0;
+    // up and down the tree: no index is counted
     while 0 < path.depth {
         let top = path.last();
         match turn::untested(s, top) {

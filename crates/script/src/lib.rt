@@ -24,6 +24,7 @@ fn run_on(m: &mut Memory<'_>, script: &[u8], out: &mut Lines<'_>)
     requires { 5 ≤ length m.old.words.now }
     ensures { Put out.old (listing_from (length script.now) (memory_of m.old) script.now) out.new }
 {
+    // no `for`: each record says how long it is
     let mut rest = script;
     while !rest.is_empty() {
         if script_step::step(m, rest, out).is_err() {

@@ -40,6 +40,7 @@ pub fn run_block(m: &mut Memory<'_>, bytes: &[u8], out: &mut Lines<'_>) -> Resul
     ensures lent { (m.new.words.ghost_name ≡ m.old.words.ghost_name) × (out.new.bytes.ghost_name ≡ out.old.bytes.ghost_name) }
     ensures sizes { (length m.new.words.now ≡ length m.old.words.now) × (length out.new.bytes.now ≡ length out.old.bytes.now) }
 {
+    // no `for`: each record says how long it is
     let mut rest = bytes;
     while 65536 <= out.bytes.len() - out.at
         && let Some(len) = known_length(rest)

@@ -33,6 +33,7 @@ impl Run<'_> {
 
     // The blocks up to one that takes nothing: what is left.
     fn list_blocks<'s>(&mut self, script: &'s [u8]) -> Result<&'s [u8], BadRecord> {
+        // no `for`: each block says how much it takes
         let mut rest = script;
         while !rest.is_empty() {
             let taken = self.list_block(rest)?;

@@ -30,6 +30,7 @@ pub fn read_full(input: &mut impl Read, buffer: &mut [u8]) -> usize
     ensures { result ≤ length buffer.new }
 {
     let all = buffer.len();
+    // no `for`: each read says how much it gave
     let mut rest = buffer;
     while !rest.is_empty() {
         let count = input.read(rest).unwrap_or(0);

@@ -48,7 +48,7 @@ fn read_word(body: &[u8], i: usize) -> u64
 }
 
 // What follows a record's length, where it is of a kind and has as many words as that takes.
-// A kind is a number in this match alone, with the words that it takes: an enum of kinds beside `Record` would say no more.
+// By a kind's number, as the bytes have it: an enum of kinds between number and `Record` would be no plainer.
 #[tactic(auto, unfolding(crate::specs::Records::asked, crate::specs::Records::request_of), using(crate::proofs::Little::length_words, crate::proofs::Little::word_at))]
 pub fn read_body(body: &[u8]) -> Option<Record>
     ensures { meant body.now result ≡ asked body.now }

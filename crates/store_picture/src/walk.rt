@@ -66,6 +66,7 @@ impl Iterator for Below<'_> {
     fn next(&mut self) -> Option<Node> {
         let s = self.words;
         let pool = words::word(s, 1);
+        // no `for`: the turns left outlast the call
         while 0 < self.turns {
             self.turns -= 1;
             let level = self.path.len();

@@ -24,6 +24,7 @@ pub fn free_first(s: &mut StoreMut<'_>, root: NodeNo, k: u64)
 {
     let mut path = Path::rooted(root);
     let mut freed: u64 = 0;
+    // no `for`: a turn that goes down frees no node
     while freed < k {
         let top = path.last();
         match turn::untested(s.read(), top) {

@@ -76,6 +76,7 @@ fn survey_below(s: Store<'_>, node: NodeNo, first: u64, start: Counts, seen: Nod
     let mut walk = TreeWalk::rooted(node, first);
     let mut counts = start;
     let mut wrong = seen;
+    // up and down the tree: no index is counted
     while !walk.is_over() {
         match walk.turn(s) {
             Err(u) => return both(s.layout, Err(u), wrong),

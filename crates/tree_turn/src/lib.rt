@@ -1,4 +1,4 @@
-// The walk over a tree in reading order, and the paths to one leaf.
+// The walk over a tree in reading order, and its turns.
 
 #![tactic(auto)]
 
