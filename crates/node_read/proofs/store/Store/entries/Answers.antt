@@ -1,6 +1,6 @@
 use native.Mathlib.Omega.{arith}
-use Prim.Native.Nat.{◌+◌, ◌*◌, ◌-◌}
-use mathlib.Core.Path.{◌≡◌, ap, ◌∙◌}
+use Prim.Native.Nat.{◌-◌}
+use mathlib.Core.Path.{ap, ◌∙◌}
 use Rattle.model.specs.Words.{word_place}
 use Rattle.model.proofs.Words.{small}
 use Rattle.node_read.specs.Layout.{shape_of}
@@ -26,10 +26,3 @@ slice_bounds-result-end c =
     let a = c in
     let at = c.place-at.ensures ∙ ap (word_place (shape_of a.args.self.layout) a.args.n.0) c.row_place.ensures in
     omega (arith, at, pairs-inside a.args.self.layout.capacity a.args.self.layout.pool a.args.self.words.now a.args.self.fits a.args.n.0 a.args.k a.requires.0 a.requires.1)
-
-pub returns : goal.returns
-returns c =
-    let a = c.args in
-    let at = c.place-at.ensures ∙ ap (word_place (shape_of a.self.layout) a.n.0) c.row_place.ensures in
-    let long : c.place-at.result + 2 * a.k - c.place-at.result ≡ 2 * a.k = omega arith in
-    rw (long, at)
