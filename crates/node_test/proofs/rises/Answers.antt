@@ -64,9 +64,6 @@ returns-then-count-ge4 c =
     (rise_tail (shape_of a.s.layout) a.s.words.now a.n.0 x.last x.i a.count x.invariant.0 x.invariant.1 c.loop-i-test.false c.if-count-ge4.true x.invariant.2 x.invariant.3
     (rw (c.row-b-then-count-ge4.ensures, c.row-a-then-count-ge4.ensures) at c.if-b-a-2.false) (rw (c.row-c-then-count-ge4.ensures, c.row-b-then-count-ge4.ensures) at c.if-c-b-2.false))
 
-pub loop-k-init : goal.loop-k-init
-loop-k-init c = let x = c.loop-i.invariant in (x.0, x.1, x.2)
-
 pub returns-then-a-last-2 : goal.returns-then-a-last-2
 returns-then-a-last-2 c = let a = c.args in sym (c.loop-k.invariant.2 ∙ rise-stop (shape_of a.s.layout) a.s.words.now a.n.0 _ _ _ c.loop-k-test.true (rw c.row-a-in-loop-k.ensures at c.if-a-last-2.true))
 
