@@ -33,10 +33,10 @@ rising-is p (q ∷ ps) = ap (λ (t : Bool). ltb p.0 q.0 && t) (rising-is q ps)
 
 module _ (C : Shape) (w : List ℕ) (n : ℕ) where
   -- the rows after the last one read, up to row k
-  abbrev rest : ℕ → ℕ → ℕ → Bool
+  abbrev pub rest : ℕ → ℕ → ℕ → Bool
   rest last i k = rises yes last (pairs_from C w (λ (x : ℕ). x) n i (k - i))
 
-  rise-all : (k : ℕ) → 1 ≤ k → rising (pairs_from C w (λ (x : ℕ). x) n 0 k) ≡ rest (row C w n 0) 1 k
+  pub rise-all : (k : ℕ) → 1 ≤ k → rising (pairs_from C w (λ (x : ℕ). x) n 0 k) ≡ rest (row C w n 0) 1 k
   unfolding pairs_from
   rise-all zero h = absurd (omega arith)
   rise-all (suc k) h = let e : suc k - 1 ≡ k = omega arith in rw e (rising-is (row C w n 0, child C w n 0) (pairs_from C w (λ (x : ℕ). x) n (0 + 1) k))
@@ -125,18 +125,10 @@ module _ (C : Shape) (w : List ℕ) (n : ℕ) where
   begins-at (suc k) h = refl
 
   module _ (P : ℕ) where
-    -- child number i is in range; is not; no number is left
-    pub out-on : (i k : ℕ) → i < k → child C w n i < P → first_out C P w n i (k - i) ≡ first_out C P w n (i + 1) (k - (i + 1))
+    -- child number i is in range
+    pub out_on : (i k : ℕ) → i < k → child C w n i < P → first_out C P w n i (k - i) ≡ first_out C P w n (i + 1) (k - (i + 1))
     unfolding first_out
-    out-on i k h l = let e : k - i ≡ suc (k - (i + 1)) = omega arith in rw (e, lt-ltb (child C w n i) P l)
-
-    pub out-here : (i k : ℕ) → i < k → P ≤ child C w n i → first_out C P w n i (k - i) ≡ i
-    unfolding first_out
-    out-here i k h l = let e : k - i ≡ suc (k - (i + 1)) = omega arith in rw (e, le-ltb (child C w n i) P l)
-
-    pub out-end : (i k : ℕ) → k ≤ i → first_out C P w n i (k - i) ≡ i
-    unfolding first_out
-    out-end i k h = let e : k - i ≡ 0 = omega arith in rw e
+    out_on i k h l = let e : k - i ≡ suc (k - (i + 1)) = omega arith in rw (e, lt-ltb (child C w n i) P l)
 
   -- what a sound node's words say
   pub record Facts (h r : ℕ) (b : Limit) : Type 0 where
