@@ -66,7 +66,7 @@ fn both(l: Layout, nodes: Result<Counts, UnsoundNode>, wrong: NodeNo) -> Surveys
 
 // What is left below a node that was entered, with the counts and the first wrong end so far. The walk is changed in
 // place: a copy of its path for each node would cost more than the node's test.
-#[tactic(auto, using(crate::proofs::WithEnds::below_turns, std::proofs::Common::sym, tree_turn::proofs::Turns::narrow))]
+#[tactic(auto, using(crate::proofs::WithEnds::below_turns))]
 fn survey_below(s: Store<'_>, node: NodeNo, first: u64, start: Counts, seen: NodeNo) -> Surveys
     requires valid { Valid (shape_of s.layout) s.layout.pool s.words.now (height (shape_of s.layout) s.words.now node.0) (entered node.0 ∷ []) }
     requires first_value { first ≡ out_of (shape_of s.layout) s.layout.pool s.words.now (height (shape_of s.layout) s.words.now node.0) node.0 }
