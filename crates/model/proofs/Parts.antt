@@ -28,7 +28,7 @@ pub pairs-few : (C : Shape) (w : List ℕ) (n i k : ℕ) → length (pair_words 
 pairs-few C w n i k = omega (arith, length-take (2 * k) (drop (word_place C n (row_place i)) w))
 
 -- all of them lie in the store
-pub pairs-inside : (C P : ℕ) (w : List ℕ) → Header C P w → (n k : ℕ) → n < P → k ≤ C → word_place (shape Pairs C) n (row_place 0) + 2 * k ≤ length w
-pairs-inside C P w hd n k l h =
+pub pairs_inside : (C P : ℕ) (w : List ℕ) → Header C P w → (n k : ℕ) → n < P → k ≤ C → word_place (shape Pairs C) n (row_place 0) + 2 * k ≤ length w
+pairs_inside C P w hd n k l h =
     let S = shape Pairs C in
     omega (arith, place_lt S P n (3 + 2 * k) l (omega arith), in_pairs_lem C n (3 + 2 * k), in_pairs_lem C n 4, hd.long)

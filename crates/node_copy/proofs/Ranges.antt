@@ -10,7 +10,7 @@ use lib.Seq.{paste, paste-zero, take-suc-set, drop-cons, get_or-set_other}
 use Rattle.std.proofs.lemmas.List.{drop-set-lt}
 use Rattle.model.specs.Words.{Shape, shape, Pairs, word_place, put, part, row_place, child_place, Header}
 use Rattle.model.specs.Prune.{moved}
-use Rattle.model.proofs.Parts.{pairs-inside}
+use Rattle.model.proofs.Parts.{pairs_inside}
 use Rattle.model.proofs.Words.{in_pairs_lem}
 
 -- one word, then k more
@@ -65,5 +65,5 @@ module _ (C : ℕ) where
       → moved S w n k 0 m ≡ paste w (word_place S n (row_place 0)) (drop (word_place S n (row_place 0) + 2 * k) w) (2 * m)
   moved_is P n k m w hd a b =
       let from : word_place S n (row_place (k + 0)) ≡ word_place S n (row_place 0) + 2 * k = omega (arith, in_pairs_lem C n (row_place (k + 0)), in_pairs_lem C n (row_place 0)) in
-      move-range n k m 0 w (omega (arith, pairs-inside C P w hd n (k + m) a b))
+      move-range n k m 0 w (omega (arith, pairs_inside C P w hd n (k + m) a b))
       ∙ ap (λ (r : ℕ). paste w (word_place S n (row_place 0)) (drop r w) (2 * m)) from

@@ -34,6 +34,9 @@ module _ (w : List ℕ) where
   pub eight : header_ok w ≡ true → 8 ≤ length w
   eight e = let p = header_of w e in omega arith
 
+-- what an open store and a refused one say
+pub ruleset opening = (opened-damaged, opened-closed, opened_open, eight)
+
 -- The same test in the definitions of the calls: what a call does after it, in both cases
 pub record IsOpen (w : List ℕ) (h : StoreHeader) : Type 0 where
   pub header_is : h ≡ store_header w

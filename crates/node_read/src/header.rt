@@ -18,6 +18,7 @@ pub struct StoreHeader {
 }
 
 // Whether capacity, pool and length fit, and the other words are at most the pool.
+#[tactic(auto, unfolding(model::specs::Refusals::header_ok))]
 fn header_ok(s: &[u64]) -> bool
     ensures { result ≡ header_ok s.now }
 {
@@ -42,6 +43,7 @@ fn header_ok(s: &[u64]) -> bool
 }
 
 // The header of an open store; or refusal 2, then 3.
+#[tactic(auto, using(crate::proofs::Opened::opening))]
 pub fn open(s: &[u64]) -> Result<StoreHeader, Refusal>
     ensures { result ≡ opened s.now }
 {

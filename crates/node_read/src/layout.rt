@@ -76,6 +76,7 @@ impl Layout {
     }
 
     // The place of word j of node n among the store's words.
+    #[tactic(auto, using(model::proofs::Words::in_pairs_lem))]
     pub fn place(self, n: NodeNo, j: u64) -> usize
         requires { (self.capacity ≤ 4094) × (n.0 ≤ 65535) × (j < node_size self.capacity) }
         ensures { result ≡ word_place (shape_of self) n.0 j }

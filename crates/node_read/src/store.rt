@@ -18,6 +18,7 @@ pub struct Store<'a> {
 
 impl<'a> Store<'a> {
     // Word j of node n.
+    #[tactic(auto, unfolding(model::specs::Words::part), using(model::proofs::Words::small, model::proofs::Words::place_lt))]
     pub fn part(self, n: NodeNo, j: u64) -> u64
         requires { (n.0 < self.layout.pool) × (j < node_size self.layout.capacity) }
         ensures { result ≡ part (shape_of self.entry.layout) self.entry.words.now n.0 j }

@@ -46,15 +46,15 @@ module _ (C : Shape) (w : List ℕ) (n : ℕ) where
   more last i k h = let e : k - i ≡ suc (k - (i + 1)) = omega arith in rw e
 
   -- a row above the last: on to the next; j is the place after i
-  pub rise-on : (last i j k : ℕ) → i < k → i + 1 ≡ j → last < row C w n i → rest last i k ≡ rest (row C w n i) j k
+  rise-on : (last i j k : ℕ) → i < k → i + 1 ≡ j → last < row C w n i → rest last i k ≡ rest (row C w n i) j k
   rise-on last i j k h e g = more last i k h ∙ rw (lt-ltb last (row C w n i) g, e)
 
   -- a row not above the last
-  pub rise-stop : (last i k : ℕ) → i < k → row C w n i ≤ last → rest last i k ≡ false
+  rise-stop : (last i k : ℕ) → i < k → row C w n i ≤ last → rest last i k ≡ false
   rise-stop last i k h g = more last i k h ∙ rw (le-ltb last (row C w n i) g)
 
   -- no row left
-  pub rise-end : (last i k : ℕ) → k ≤ i → rest last i k ≡ true
+  rise-end : (last i k : ℕ) → k ≤ i → rest last i k ≡ true
   unfolding rises pairs_from
   rise-end last i k h = let e : k - i ≡ 0 = omega arith in rw e
 
@@ -89,16 +89,25 @@ module _ (C : Shape) (w : List ℕ) (n : ℕ) where
   four k (suc (suc (suc zero))) a b p q r = p
   four k (suc (suc (suc (suc d)))) a b p q r = absurd (omega arith)
 
+  -- the rows before place i rise, and last is the one before it
+  pub record At (last i k : ℕ) : Type 0 where
+    pub low : 1 ≤ i
+    pub high : i ≤ k
+    pub same : rising (pairs_from C w (λ (x : ℕ). x) n 0 k) ≡ rest last i k
+    pub is : last ≡ row C w n (i - 1)
+
   -- and fewer than four rows are left
-  pub rise_tail : (last i k : ℕ) → 1 ≤ i → i ≤ k → k ≤ i + 3 → 4 ≤ k → rising (pairs_from C w (λ (x : ℕ). x) n 0 k) ≡ rest last i k → last ≡ row C w n (i - 1)
-      → row C w n (k - 4) < row C w n (k - 3) → row C w n (k - 3) < row C w n (k - 2) → ltb (row C w n (k - 2)) (row C w n (k - 1)) ≡ rising (pairs_from C w (λ (x : ℕ). x) n 0 k)
-  rise_tail last i k o a b z e f p q =
+  pub tail : (last i k : ℕ) → At last i k → k ≤ i + 3 → 4 ≤ k → row C w n (k - 4) < row C w n (k - 3) → row C w n (k - 3) < row C w n (k - 2)
+      → ltb (row C w n (k - 2)) (row C w n (k - 1)) ≡ rising (pairs_from C w (λ (x : ℕ). x) n 0 k)
+  tail last i k g b z p q =
+      let o = g.low in
+      let a = g.high in
       by_test (ltb (row C w n (k - 2)) (row C w n (k - 1)))
       (λ t. let each : (j : ℕ) → i ≤ j → j < k → row C w n (j - 1) < row C w n j = λ j x y.
       let u : j ≡ k - (k - j) = omega arith in
       let v : j - 1 ≡ k - (k - j + 1) = omega arith in
       subst (λ (m : ℕ). row C w n (j - 1) < row C w n m) (sym u) (rw v (four k (k - j) (omega arith) (omega arith) p q (ltb-true (row C w n (k - 2)) (row C w n (k - 1)) t))) in
-      t ∙ sym (e ∙ rw f (rise-rest (k - i) i k (omega arith) o each)))
+      t ∙ sym (g.same ∙ rw g.is (rise-rest (k - i) i k (omega arith) o each)))
       (λ t. t ∙ sym (rise-falls 0 k (omega arith) (ltb-false (row C w n (k - 2)) (row C w n (k - 1)) t)))
 
   last_row_lem : (i k : ℕ) → last_row (pairs_from C w (λ (x : ℕ). x) n i (suc k)) ≡ row C w n (i + k)
@@ -116,18 +125,10 @@ module _ (C : Shape) (w : List ℕ) (n : ℕ) where
   begins-at (suc k) h = refl
 
   module _ (P : ℕ) where
-    -- child number i is in range; is not; no number is left
-    pub out-on : (i k : ℕ) → i < k → child C w n i < P → first_out C P w n i (k - i) ≡ first_out C P w n (i + 1) (k - (i + 1))
+    -- child number i is in range
+    pub out_on : (i k : ℕ) → i < k → child C w n i < P → first_out C P w n i (k - i) ≡ first_out C P w n (i + 1) (k - (i + 1))
     unfolding first_out
-    out-on i k h l = let e : k - i ≡ suc (k - (i + 1)) = omega arith in rw (e, lt-ltb (child C w n i) P l)
-
-    pub out-here : (i k : ℕ) → i < k → P ≤ child C w n i → first_out C P w n i (k - i) ≡ i
-    unfolding first_out
-    out-here i k h l = let e : k - i ≡ suc (k - (i + 1)) = omega arith in rw (e, le-ltb (child C w n i) P l)
-
-    pub out-end : (i k : ℕ) → k ≤ i → first_out C P w n i (k - i) ≡ i
-    unfolding first_out
-    out-end i k h = let e : k - i ≡ 0 = omega arith in rw e
+    out_on i k h l = let e : k - i ≡ suc (k - (i + 1)) = omega arith in rw (e, lt-ltb (child C w n i) P l)
 
   -- what a sound node's words say
   pub record Facts (h r : ℕ) (b : Limit) : Type 0 where
@@ -180,3 +181,21 @@ module _ (C : Shape) (w : List ℕ) (n : ℕ) where
           f.ends,
         )
         (by_test (rising (pairs_from C w (λ (x : ℕ). x) n 0 (count C w n))) (λ t. rw t) (λ t. rw t))
+
+-- the turns over the rows: the first row, one more that is above the last or is not, and none left
+module _ {C : Shape} {w : List ℕ} {n last k : ℕ} where
+  pub begins : 1 ≤ k → last ≡ row C w n 0 → At C w n last 1 k
+  begins h e = record { low = omega arith; high = h; same = rise-all C w n k h ∙ rw e; is = e }
+
+  module _ {i r : ℕ} (g : At C w n last i k) where
+    pub goes_on : (j : ℕ) → i + 1 ≡ j → i < k → r ≡ row C w n i → last < r → At C w n r j k
+    goes_on j e h p l =
+        let z : i ≡ j - 1 = omega arith in
+        let up : last < row C w n i = rw p at l in
+        record { low = omega arith; high = omega arith; same = g.same ∙ rise-on C w n last i j k h e up ∙ rw p; is = p ∙ ap (row C w n) z }
+
+    pub stops : i < k → r ≡ row C w n i → r ≤ last → false ≡ rising (pairs_from C w (λ (x : ℕ). x) n 0 k)
+    stops h p l = sym (g.same ∙ rise-stop C w n last i k h (rw p at l))
+
+  pub arrives : {i : ℕ} → At C w n last i k → k ≤ i → true ≡ rising (pairs_from C w (λ (x : ℕ). x) n 0 k)
+  arrives {i} g h = sym (g.same ∙ rise-end C w n last i k h)

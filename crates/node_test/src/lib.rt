@@ -86,7 +86,7 @@ fn rises(s: Store<'_>, n: NodeNo, count: u64) -> bool
 }
 
 // The first of the child numbers of node n that is not below the pool; the count where all are.
-#[tactic(auto, unfolding(crate::specs::Test::first_out))]
+#[tactic(auto, unfolding(crate::specs::Test::first_out), using(crate::proofs::Rows::out_on))]
 fn first_out(s: Store<'_>, n: NodeNo, count: u64) -> u64
     requires n_lt_pool { (n.0 < s.layout.pool) × (count ≤ s.layout.capacity) }
     ensures { result ≡ first_out (shape_of s.entry.layout) s.entry.layout.pool s.entry.words.now n.0 0 count }
@@ -131,7 +131,7 @@ pub fn is_sound(s: Store<'_>, n: NodeNo, height: u64, row: RowID, next: Option<R
 
 // The node test: all rows, then all child numbers. Of a sound node it gives the first of its child numbers that is out of range:
 // the count where none is.
-#[tactic(auto, unfolding(crate::specs::Test::node_test))]
+#[tactic(auto, unfolding(crate::specs::Test::node_test), using(crate::proofs::Rows::facts))]
 #[inline(always)]
 pub fn test_node(
     s: Store<'_>,

@@ -179,3 +179,6 @@ module _ {C : Shape} {P : ℕ} {w W : List ℕ} {k j : ℕ} {s : List ℕ} {p : 
 
       pub room_in : (p.depth < 32) × ((last_of p).index < C.cap)
       room_in = (step_room sure some_depth down, step-short sure some_depth down)
+
+-- what `free_first` cites
+pub ruleset of_free_first = (goes-out, goes_in)

@@ -16,6 +16,7 @@ use node_read::store::StoreMut;
 use tree_turn::turn;
 
 // Frees the first k nodes, in postorder, of the tree from root.
+#[tactic(auto, using(crate::proofs::Freeing::of_free_first))]
 #[inline(always)]
 pub fn free_first(s: &mut StoreMut<'_>, root: NodeNo, k: u64)
     requires { CanFree (shape_of s.old.layout) s.old.layout.pool s.old.words.now root.0 k }

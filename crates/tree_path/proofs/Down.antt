@@ -12,6 +12,8 @@ use Rattle.model.specs.Tree as Tree
 use Rattle.model.specs.Words.{Shape, height, count, start, row, child, max_height}
 use Rattle.model.specs.Tree.{Limit, Open, node_at, sound, empty_root, rising, pairs_from}
 use Rattle.model.specs.Reading.{unsound, leaf, next_row, checked, descend, root_leaf, last_not_above, to_row}
+use Rattle.model.specs.declared.node.RowPageIndexNodeHeader.{RowPageIndexNodeHeader}
+use Rattle.node_read.specs.Layout.{header_at}
 use Rattle.node_test.proofs.Rows.{facts, sound_if}
 use Rattle.node_place.proofs.Places.{place-below}
 
@@ -87,20 +89,21 @@ module _ (f : ℕ → ℕ) (C : Shape) (P : ℕ) (w : List ℕ) (n : ℕ) (b : L
       (λ u. inr (path-sound (height C w k) k k (start C w k) Open (rw (t, u) at e)))
       (λ u. not-leaf k (rw (t, u) at e)))
 
--- the entry of a sound node towards row q, by a count k that was read
-module _ (C : Shape) (w : List ℕ) (n h r : ℕ) (b : Limit) (s : sound C h (node_at C w n) r b ≡ true) (k : ℕ) (e : k ≡ count C w n) where
-  pub some : 1 ≤ k
-  some = omega (arith, e, (facts C w n h r b s).some)
+-- the rows of a sound node and its entry towards row q, by the header k that was read
+module _ (C : Shape) (w : List ℕ) (n h r : ℕ) (b : Limit) (s : sound C h (node_at C w n) r b ≡ true) (k : RowPageIndexNodeHeader) (e : k ≡ header_at C w n) where
+  counted : k.count ≡ count C w n
+  counted = ap (λ (y : RowPageIndexNodeHeader). y.count) e
 
-  pub many : k ≤ C.cap
-  many = omega (arith, e, (facts C w n h r b s).many)
+  pub rows_of : (1 ≤ k.count) × (k.count ≤ C.cap) × T (rising (pairs_from C w (λ (x : ℕ). x) n 0 k.count))
+  rows_of =
+      let f = facts C w n h r b s in
+      (omega (arith, counted, f.some), omega (arith, counted, f.many), rw counted (holds _ (sym (sound_if C w n h r b f) ∙ s)))
 
-  pub rises : T (rising (pairs_from C w (λ (x : ℕ). x) n 0 k))
-  rises = rw e (holds _ (sym (sound_if C w n h r b (facts C w n h r b s)) ∙ s))
-
-  module _ (q i : ℕ) (p : i ≡ last_not_above C w q n k) where
+  module _ (q i : ℕ) (p : i ≡ last_not_above C w q n k.count) where
     pub towards : i ≡ to_row C w q n
-    towards = p ∙ ap (last_not_above C w q n) e
+    towards = p ∙ ap (last_not_above C w q n) counted
 
-    pub within : i < count C w n
-    within = omega (arith, towards, place-below C w n q (count C w n) (facts C w n h r b s).some)
+    pub entry_of : (i < count C w n) × (count C w n ≤ C.cap)
+    entry_of =
+        let f = facts C w n h r b s in
+        (omega (arith, towards, place-below C w n q (count C w n) f.some), f.many)

@@ -1,11 +1,8 @@
 use mathlib.Core.Path.{◌≡◌, refl, sym, ap, ◌∙◌}
 use mathlib.Core.Bool.{false≢true}
-use mathlib.Core.List.{[]}
 use native.Mathlib.Omega.{arith}
 use native.Mathlib.Nat.{sub-zero}
 use lib.ListN.{length-set}
-use Rattle.node_read.specs.Layout.{shape_of}
-use Rattle.model.specs.Reading.{occ}
 use Rattle.model.specs.Append.{chain_sound, past}
 use Rattle.node_chain.specs.Chain.{listed}
 use Rattle.node_write.proofs.Turns.{turn, stop}
@@ -22,14 +19,6 @@ returns-then-not-is_link-clause-ok c = sym (c.loop-i.invariant.2 ∙ unlinked _ 
 
 pub returns-then-holds-clause-ok : goal.returns-then-holds-clause-ok
 returns-then-holds-clause-ok c = sym (c.loop-i.invariant.2 ∙ unlinked _ _ _ _ _ _ _ c.loop-i-test.true (λ p. false≢true (rw c.if-holds.true at c.holds.ensures ∙ p.new)))
-
-pub header-requires : goal.header-requires
-unfolding occ
-header-requires c =
-    let a = c.args in
-    let g = sym c.is_link.ensures ∙ c.if-not-is_link.false in
-    let p = link_of (shape_of a.s.layout) a.s.layout.pool a.s.words.now c.loop-i.n.0 [] g refl in
-    p.inside
 
 pub loop-i-preserved : goal.loop-i-preserved
 unfolding past

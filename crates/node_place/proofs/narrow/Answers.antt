@@ -1,17 +1,12 @@
 use Prim.Native.Nat.{◌<◌, ◌≤◌}
-use mathlib.Core.Path.{◌∙◌, refl, sym}
+use mathlib.Core.Path.{◌∙◌, sym}
 use Rattle.model.proofs.Order.{le_holds, le_fails}
-use mathlib.Core.Logic.{inr}
 use native.Mathlib.Omega.{arith}
 use Rattle.node_read.specs.Layout.{shape_of}
 use Prim.Native.Nat.{◌+◌}
 use Rattle.node_place.proofs.Places.{Looked, moved, kept, found, place-below}
 use Rattle.node_place.proofs.narrow.Goals as goal
 use Rattle.node_place.proofs.narrow.Goals.{then-le, else-le}
-
-pub loop-i-init : goal.loop-i-init
-loop-i-init c =
-    let p = c.requires in (p.le_step.3, p.lies_in.from, inr refl)
 
 pub loop-i-preserved : goal.loop-i-preserved
 loop-i-preserved c =

@@ -10,9 +10,6 @@ narrow-requires c =
     let lies = lies_in-all (shape_of a.s.layout) a.s.words.now a.n.0 a.q.0 a.count p.n_lt_pool.1 in
     record { n_lt_pool = (p.n_lt_pool.0, p.n_lt_pool.2, p.n_lt_pool.3); le_step = (omega arith, omega arith, omega (arith, a.s.fits.cap-high), begins (shape_of a.s.layout) a.s.words.now a.n.0 a.q.0 a.count _ _ p.n_lt_pool.1 lies); lies_in = lies }
 
-pub returns-then-count-le16 : goal.returns-then-count-le16
-returns-then-count-le16 c = omega (arith, c.narrow.ensures.from, c.narrow.ensures.before)
-
 pub narrow-part-requires : goal.narrow-part-requires
 narrow-part-requires c =
     let a = c.args in
@@ -33,6 +30,3 @@ narrow-requires-2 c =
     let p = c.requires in
     let lies = c.narrow-few.ensures in
     record { n_lt_pool = (p.n_lt_pool.0, p.n_lt_pool.2, p.n_lt_pool.3); le_step = (omega arith, omega arith, omega (arith, a.s.fits.cap-high), begins (shape_of a.s.layout) a.s.words.now a.n.0 a.q.0 a.count _ _ p.n_lt_pool.1 lies); lies_in = lies }
-
-pub returns : goal.returns
-returns c = omega (arith, c.narrow-2.ensures.from, c.narrow-2.ensures.before)

@@ -11,19 +11,19 @@ use Rattle.node_test.proofs.Rows.{Facts, unsound_if, sound_if}
 use Rattle.node_test.proofs.is_sound.Goals as goal
 
 pub returns-then-h-height : goal.returns-then-h-height
-returns-then-h-height c = let a = c.args in sym (unsound_if (shape_of a.s.layout) a.s.words.now a.n.0 a.height a.row.0 (limit_of a.next) (λ f. c.if-h-height.true (ap (λ (h : RowPageIndexNodeHeader). h.height) c.header-h.ensures ∙ f.high)))
+returns-then-h-height c = sym (unsound_if _ _ _ _ _ _ (λ f. c.if-h-height.true (ap (λ (h : RowPageIndexNodeHeader). h.height) c.header-h.ensures ∙ f.high)))
 
 pub returns-then-count-lt1 : goal.returns-then-count-lt1
-returns-then-count-lt1 c = let a = c.args in sym (unsound_if (shape_of a.s.layout) a.s.words.now a.n.0 a.height a.row.0 (limit_of a.next) (λ f. omega (arith, c.if-count-lt1.true, ap (λ (h : RowPageIndexNodeHeader). h.count) c.header-h.ensures)))
+returns-then-count-lt1 c = sym (unsound_if _ _ _ _ _ _ (λ f. omega (arith, c.if-count-lt1.true, ap (λ (h : RowPageIndexNodeHeader). h.count) c.header-h.ensures)))
 
 pub returns-then-s-count : goal.returns-then-s-count
-returns-then-s-count c = let a = c.args in sym (unsound_if (shape_of a.s.layout) a.s.words.now a.n.0 a.height a.row.0 (limit_of a.next) (λ f. omega (arith, c.if-s-count.true, ap (λ (h : RowPageIndexNodeHeader). h.count) c.header-h.ensures)))
+returns-then-s-count c = sym (unsound_if _ _ _ _ _ _ (λ f. omega (arith, c.if-s-count.true, ap (λ (h : RowPageIndexNodeHeader). h.count) c.header-h.ensures)))
 
 pub returns-then-ne : goal.returns-then-ne
-returns-then-ne c = let a = c.args in sym (unsound_if (shape_of a.s.layout) a.s.words.now a.n.0 a.height a.row.0 (limit_of a.next) (λ f. ne_holds _ _ (sym c.ne.ensures ∙ c.if-ne.true) (ap (λ (h : RowPageIndexNodeHeader). h.start_row_id.0) c.header-h.ensures ∙ f.begin)))
+returns-then-ne c = sym (unsound_if _ _ _ _ _ _ (λ f. ne_holds _ _ (sym c.ne.ensures ∙ c.if-ne.true) (ap (λ (h : RowPageIndexNodeHeader). h.start_row_id.0) c.header-h.ensures ∙ f.begin)))
 
 pub returns-then-ne-2 : goal.returns-then-ne-2
-returns-then-ne-2 c = let a = c.args in sym (unsound_if (shape_of a.s.layout) a.s.words.now a.n.0 a.height a.row.0 (limit_of a.next) (λ f. ne_holds _ _ (sym c.ne-2.ensures ∙ c.if-ne-2.true) (c.row.ensures ∙ f.first)))
+returns-then-ne-2 c = sym (unsound_if _ _ _ _ _ _ (λ f. ne_holds _ _ (sym c.ne-2.ensures ∙ c.if-ne-2.true) (c.row.ensures ∙ f.first)))
 
 pub returns-then-not-end_sound : goal.returns-then-not-end_sound
 returns-then-not-end_sound c =

@@ -1,16 +1,7 @@
-use Rattle.node_read.proofs.Asked.{leaf-height, branch-height}
-use mathlib.Core.Path.{sym, ap, ◌∙◌}
-use borrow.Author.Tests.{ne_eqb}
-use Rattle.model.specs.declared.node.RowPageIndexNodeHeader.{RowPageIndexNodeHeader}
+use mathlib.Core.Path.{sym, ◌∙◌}
 use Rattle.model.proofs.Order.{lt_holds, lt_fails, ne_holds, ne_fails}
-use Rattle.prune_leaf.proofs.Scans.{told, turn-used, turn-page, turn_end, turn_on, turns-end}
+use Rattle.prune_leaf.proofs.Scans.{turn-used, turn-page, turn_end, turn_on, turns-end}
 use Rattle.prune_leaf.proofs.scan_node.Goals as goal
-
-pub returns-then-not-is_leaf : goal.returns-then-not-is_leaf
-returns-then-not-is_leaf c = rw (ne_eqb _ _ (branch-height c.header-h.ensures c.is_leaf.ensures c.if-not-is_leaf.true))
-
-pub loop-i-init : goal.loop-i-init
-loop-i-init c = told _ _ _ _ c.args.ids.now c.args.from.place c.args.from.reached.0 _ (leaf-height c.header-h.ensures c.is_leaf.ensures c.if-not-is_leaf.false) (ap (λ (h : RowPageIndexNodeHeader). h.count) c.header-h.ensures)
 
 pub returns-then-ids-place : goal.returns-then-ids-place
 returns-then-ids-place c = sym (c.loop-i.invariant ∙ turn-used _ _ _ _ _ _ _ _ _ c.if-ids-place.true)

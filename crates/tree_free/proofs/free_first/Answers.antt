@@ -1,8 +1,7 @@
-use borrow.Author.Rules.{rules}
 use mathlib.Core.Path.{refl, sym, ◌∙◌}
 use native.Mathlib.Omega.{arith}
 use Rattle.node_read.specs.Layout.{shape_of}
-use Rattle.tree_free.proofs.Freeing.{enough, some_depth, last_in_lem, goes-out, less-out, goes_in, less_in, room_in}
+use Rattle.tree_free.proofs.Freeing.{enough, some_depth, last_in_lem, less-out, less_in, room_in}
 use Rattle.tree_free.proofs.Root.{start-freeing}
 use Rattle.tree_free.proofs.free_first.Goals as goal
 
@@ -29,12 +28,6 @@ loop-freed-smaller-in-None c = rw c.leave.ensures (less-out c.loop-freed.invaria
 pub leave-requires : goal.leave-requires
 leave-requires c = some_depth c.loop-freed.invariant.1 c.loop-freed-test.true
 
-pub loop-freed-preserved-in-None : goal.loop-freed-preserved-in-None
-loop-freed-preserved-in-None c =
-    let k = c.loop-freed.invariant.0.layout in
-    let e = rw (c.last-top.ensures, k) at c.free_node.ensures.words in
-    (search rules, rw (c.leave.ensures, e) (goes-out c.loop-freed.invariant.1 c.loop-freed-test.true (sym c.in-None.is ∙ rw (c.last-top.ensures, c.read.ensures.layout, c.read.ensures.words, k) at c.untested.ensures)))
-
 pub enter-requires : goal.enter-requires
 enter-requires c =
     let f = c.loop-freed.invariant.1 in
@@ -43,9 +36,6 @@ enter-requires c =
 
 pub loop-freed-smaller : goal.loop-freed-smaller
 loop-freed-smaller c = rw c.enter.ensures (less_in c.loop-freed.invariant.1 c.loop-freed-test.true _ (sym c.in-Some.is ∙ rw (c.last-top.ensures, c.read.ensures.layout, c.read.ensures.words, c.loop-freed.invariant.0.layout) at c.untested.ensures))
-
-pub loop-freed-preserved : goal.loop-freed-preserved
-loop-freed-preserved c = (c.loop-freed.invariant.0, rw c.enter.ensures (goes_in c.loop-freed.invariant.1 c.loop-freed-test.true _ (sym c.in-Some.is ∙ rw (c.last-top.ensures, c.read.ensures.layout, c.read.ensures.words, c.loop-freed.invariant.0.layout) at c.untested.ensures)))
 
 pub returns-clause-words : goal.returns-clause-words
 returns-clause-words c = rw c.rooted-path.ensures at (enough c.loop-freed.invariant.1 c.loop-freed-test.false)

@@ -2,7 +2,6 @@ use native.Mathlib.Omega.{arith}
 use borrow.Author.Tests.{eqb-false}
 use Rattle.std.proofs.Common.{sym, ◌∙◌}
 use Rattle.node_read.specs.Layout.{shape_of}
-use Rattle.tree_turn.proofs.Turns.{narrow}
 use Rattle.tree_survey.proofs.WithEnds.{start-both, both-up, both-down}
 use Rattle.tree_survey.proofs.survey_below.Goals as goal
 
@@ -11,11 +10,6 @@ loop-walk-init c = let a = c.args in rw c.rooted-walk.ensures (start-both (shape
 
 pub loop-walk-preserved-in-Ok-None : goal.loop-walk-preserved-in-Ok-None
 loop-walk-preserved-in-Ok-None c = both-up c.loop-walk.invariant (omega (arith, eqb-false _ _ (sym c.is_over.ensures ∙ c.loop-walk-test.true))) (rw c.in-Ok-None.field-0-is at c.in-Ok-None.ensures)
-
-pub count_node-counts-requires : goal.count_node-counts-requires
-count_node-counts-requires c =
-    let q = rw c.in-Ok-Some.field-0-is at c.in-Ok-Some.ensures in
-    record { n_lt_pool = narrow c.loop-walk.invariant.walking (omega (arith, eqb-false _ _ (sym c.is_over.ensures ∙ c.loop-walk-test.true))) q.tells }
 
 pub loop-walk-preserved : goal.loop-walk-preserved
 loop-walk-preserved c =
