@@ -2,14 +2,12 @@
 
 #![tactic(auto)]
 
-ghost use Rattle.std.specs.Prelude.{◌≡◌, ◌≤◌};
-ghost use Rattle.script_records.specs.Records as R;
-ghost use Rattle.script_calls.specs.Calls.{create_length, perform};
-ghost use Rattle.script_calls.specs.Steps.{Does, memory_of};
+ghost use Rattle.std.specs.Prelude.{◌≡◌, IfSome, ◌≤◌, length};
+ghost use Rattle.script_calls.specs.Calls.{create_length};
+ghost use Rattle.script_create.specs.Created.{Creates};
 
 use model::id::RowID;
 use node_read::layout::Layout;
-use script_calls::memory::Memory;
 use script_text::Lines;
 
 // The words that a create gets, of so many.
@@ -31,14 +29,22 @@ pub fn create_length(all: usize, capacity: u64, nodes: u64) -> usize
     len
 }
 
-// An accepted create says how many words later calls get.
-pub fn create_step(m: &mut Memory<'_>, capacity: u64, nodes: u64, start: u64, out: &mut Lines<'_>)
-    ensures { Does (perform (memory_of m.old) (R.Create capacity nodes start)) m.old out.old m.new out.new }
+// A create in these words: how many of them later calls get, where it is accepted.
+pub fn create_step(
+    words: &mut [u64],
+    capacity: u64,
+    nodes: u64,
+    start: u64,
+    out: &mut Lines<'_>,
+) -> Option<usize>
+    ensures does { Creates capacity nodes start words.old out.old words.new out.new result }
+    ensures few { IfSome result (λ used. used ≤ length words.new) }
 {
-    let len = create_length(m.words.len(), capacity, nodes);
-    let a = call_create::new(&mut m.words[..len], capacity, nodes, RowID(start));
-    if a.is_ok() {
-        m.used = len;
-    }
+    let len = create_length(words.len(), capacity, nodes);
+    let a = call_create::new(&mut words[..len], capacity, nodes, RowID(start));
     answer_line::put_answer(out, b"create", b"create", a);
+    if a.is_err() {
+        return None;
+    }
+    Some(len)
 }

@@ -23,7 +23,10 @@ fn perform_record(m: &mut Memory<'_>, asked: Record, body: &[u8], out: &mut Line
 {
     match asked {
         Record::Create(capacity, nodes, start) => {
-            script_create::create_step(m, capacity, nodes, start, out)
+            let used = script_create::create_step(&mut *m.words, capacity, nodes, start, out);
+            if let Some(used) = used {
+                m.used = used;
+            }
         }
         Record::Append(count, page) => script_calls::append_step(m, count, page, out),
         Record::Find(row) => script_calls::find_step(m, row, out),

@@ -1,17 +1,28 @@
-use mathlib.Core.Path.{refl, sym, ◌∙◌}
-use Rattle.script_calls.proofs.Performing.{creates}
+use borrow.Author.Rules.{rules}
+use mathlib.Core.Bool.{true, false}
+use mathlib.Core.Path.{◌≡◌, ◌∙◌}
+use Rattle.std.specs.Prelude.{is_ok}
 use Rattle.script_create.proofs.Lengths.{done, not_done}
 use Rattle.script_create.proofs.create_step.Goals as goal
-use Rattle.script_create.proofs.create_step.Goals.{then-is_ok, else-is_ok}
 
-pub returns : goal.returns
-returns c =
-    let x = c.args in
-    let r = c.new-a.ensures in
+pub returns-then-is_err-clause-does : goal.returns-then-is_err-clause-does
+returns-then-is_err-clause-does c =
     let n = c.create_length-len in
-    let a = c.new-a.result in
-    let e = sym c.is_ok.ensures.value in
-    elim c.if-is_ok.branch [
-      | then-is_ok w ↦ rw w.m-is (creates x.m.now _ x.out.now _ refl _ _ x.capacity x.nodes x.start n.result c.new-a.auto.s n.ensures.is r.answer r.words refl (done a n.result x.m.now.used (e ∙ w.if-is_ok.true)) c.put_answer.ensures)
-      | else-is_ok w ↦ rw w.m-is (creates x.m.now _ x.out.now _ refl _ _ x.capacity x.nodes x.start n.result c.new-a.auto.s n.ensures.is r.answer r.words refl (not_done a n.result x.m.now.used (e ∙ w.if-is_ok.false)) c.put_answer.ensures)
-    ]
+    let r = c.new-a.ensures in
+    let e : is_ok c.new-a.result ≡ false = search rules in
+    record {
+      words = rw (r.words, n.ensures.is);
+      used = λ u. not_done c.new-a.result n.result u e ∙ rw (r.answer, n.ensures.is);
+      puts = rw (r.answer, n.ensures.is) at c.put_answer.ensures;
+    }
+
+pub returns-clause-does : goal.returns-clause-does
+returns-clause-does c =
+    let n = c.create_length-len in
+    let r = c.new-a.ensures in
+    let e : is_ok c.new-a.result ≡ true = search rules in
+    record {
+      words = rw (r.words, n.ensures.is);
+      used = λ u. done c.new-a.result n.result u e ∙ rw (r.answer, n.ensures.is);
+      puts = rw (r.answer, n.ensures.is) at c.put_answer.ensures;
+    }
