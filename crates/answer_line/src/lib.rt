@@ -21,7 +21,7 @@ fn put_values(out: &mut Lines<'_>, word: &[u8], n: Numbers)
 
 // The line of the answer that these numbers tell.
 #[tactic(auto, using(crate::proofs::Lines::of_refusal, crate::proofs::Lines::of_none, crate::proofs::Lines::of_values))]
-fn put_told(out: &mut Lines<'_>, given: &[u8], none: &[u8], n: Numbers)
+pub fn put_told(out: &mut Lines<'_>, given: &[u8], none: &[u8], n: Numbers)
     ensures { Put out.old (answer_line given.now none.now (answer_of n)) out.new }
 {
     if n.number != 0 {
