@@ -144,19 +144,19 @@ fn split_script(bytes: &[u8]) -> Option<(&[u8], &[u8])>
     bytes[4..].split_at_checked(len)
 }
 
-// Each script of the input, and how many bytes are left after the last.
-fn report_all(rt: &impl Print, input: &[u8], outputs: &mut Outputs<'_>) -> io::Result<()>
+// Each script of the input, and how many bytes are left after the last. Where a line cannot be written, the scripts after it are
+// compared all the same.
+fn report_all(rt: &impl Print, input: &[u8], outputs: &mut Outputs<'_>)
     requires { length input.now ≤ 65536 }
 {
     let mut rest = input;
     while let Some((script, after)) = split_script(rest) {
-        outputs.report(rt, script)?;
+        let _ = outputs.report(rt, script);
         rest = after;
     }
-    println!(rt; "left {}", rest.len())
+    let _ = println!(rt; "left {}", rest.len());
 }
 
-// A write that fails ends the run with nothing after it; no status says so.
 fn main(rt: HostRuntime) {
     let mut input = [0u8; 65536];
     let mut whole = [0u8; 65536];
@@ -166,5 +166,5 @@ fn main(rt: HostRuntime) {
         whole: &mut whole,
         blocks: &mut blocks,
     };
-    let _ = report_all(&rt, &input[..n], &mut outputs);
+    report_all(&rt, &input[..n], &mut outputs);
 }

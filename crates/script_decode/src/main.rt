@@ -5,7 +5,7 @@
 
 use script_input::name::Name;
 use std::io::Read;
-use std::{fmt, io};
+use std::fmt;
 
 // A record's call, by its kind's number as `Name` takes it, and all its words. `Record` has no page ids of a prune, and a match
 // on it would only write every call's numbers in the order that the words have.
@@ -37,28 +37,28 @@ fn read_call(bytes: &[u8]) -> Option<Call<'_>> {
 
 // A bad record: its number. No status says so, and standard error may be closed, so a line follows that script_encode refuses:
 // what was written up to here is not the whole script.
-fn write_bad(rt: &(impl Print + Eprint), number: u64) -> io::Result<()> {
+fn write_bad(rt: &(impl Print + Eprint), number: u64) {
     let _ = eprintln!(rt; "record {number}: bad record");
-    println!(rt; "bad record")
+    let _ = println!(rt; "bad record");
 }
 
 // A proved loop has to end, and nothing says that the input does: the records are counted up to a number that no run
-// reaches.
-fn decode(rt: &(impl Print + Eprint), input: &mut impl Read) -> io::Result<()> {
+// reaches. A line that cannot be written is left out, and the records after it are read: a bad one is still named.
+fn decode(rt: &(impl Print + Eprint), input: &mut impl Read) {
     let mut buffer = [0u8; 4100];
     for number in 1..u64::MAX {
         let Some(bytes) = script_input::read_record(input, &mut buffer) else {
             break;
         };
         match read_call(bytes) {
-            Some(call) => println!(rt; "{call}")?,
+            Some(call) => {
+                let _ = println!(rt; "{call}");
+            }
             None => return write_bad(rt, number),
         }
     }
-    Ok(())
 }
 
-// A write that fails ends the run with nothing after it; no status says so.
 fn main(rt: HostRuntime) {
-    let _ = decode(&rt, &mut rt.stdin());
+    decode(&rt, &mut rt.stdin());
 }

@@ -148,7 +148,8 @@ fn read_call<'a, 'b>(
     let call = Call::from_name(name).ok_or(Fault::NoCall(name))?;
     let numbers = number::read_numbers(words, buffer)?;
     if !call.takes(numbers.len()) {
-        return Err(Fault::Count(call, numbers.len()));
+        // no call takes as many numbers as the buffer has room for: those past it are counted here
+        return Err(Fault::Count(call, number::count_numbers(words)?));
     }
     Ok(Some(Asked { call, numbers }))
 }
@@ -166,32 +167,36 @@ fn write_record(rt: &impl Print, asked: Asked<'_>) -> io::Result<()> {
     rt.write_all(&record[..len])
 }
 
-// A wrong line has one bad record: what was written up to here is no good script.
-fn write_fault(rt: &(impl Print + Eprint), at: u64, fault: Fault<'_>) -> io::Result<()> {
-    eprintln!(rt; "line {at}: {fault}")?;
-    rt.write_all(b"\x02\0\0\0\0\0")
+// A wrong line has one bad record: what was written up to here is no good script. Standard error may be closed, so the record
+// follows also where the message cannot be written.
+fn write_fault(rt: &(impl Print + Eprint), at: u64, fault: Fault<'_>) {
+    let _ = eprintln!(rt; "line {at}: {fault}");
+    let _ = rt.write_all(b"\x02\0\0\0\0\0");
 }
 
 // A proved loop has to end, and nothing says that the input does: the lines are counted up to a number that no run reaches.
-fn encode(rt: &(impl Print + Eprint), reader: &mut impl BufRead) -> io::Result<()> {
+// A record that cannot be written is left out, and the lines after it are read: a wrong one is still named.
+fn encode(rt: &(impl Print + Eprint), reader: &mut impl BufRead) {
     let mut buffer = [0u8; 65535];
-    let mut numbers = [0u64; 32768];
+    let mut numbers = [0u64; MAX_NUMBERS + 1];
     for at in 1..u64::MAX {
         let Some(read) = line::read_line(reader, &mut buffer) else {
             break;
         };
         match read_call(read, &mut numbers) {
-            Ok(Some(asked)) => write_record(rt, asked)?,
+            Ok(Some(asked)) => {
+                let _ = write_record(rt, asked);
+            }
             Ok(None) => {}
             Err(fault) => return write_fault(rt, at, fault),
         }
     }
-    Ok(())
 }
 
-// A write that fails ends the run with nothing after it; no status says so.
+// Where there is no memory for a block, the lines are read without one.
 fn main(rt: HostRuntime) {
-    if let Ok(mut reader) = BufReader::new(rt.alloc(), rt.stdin()) {
-        let _ = encode(&rt, &mut reader);
+    match BufReader::with_capacity(rt.alloc(), 4096, rt.stdin()) {
+        Ok(mut reader) => encode(&rt, &mut reader),
+        Err(_) => encode(&rt, &mut rt.reader()),
     }
 }

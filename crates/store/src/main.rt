@@ -11,7 +11,6 @@ pub mod wrong;
 
 use kind::Kind;
 use session::{Asked, Session};
-use std::io;
 use std::io::{BufRead, BufReader};
 use store_text::line::{TooLong, Words};
 use store_text::{line, number};
@@ -50,7 +49,8 @@ fn take_line<'a>(
 }
 
 // A proved loop has to end, and nothing says that the input does: the lines are counted up to a number that no run reaches.
-fn run(rt: &impl Print, reader: &mut impl BufRead) -> io::Result<()> {
+// Where an answer cannot be written, the lines after it are done all the same.
+fn run(rt: &impl Print, reader: &mut impl BufRead) {
     let mut session = Session::new();
     let mut buffer = [0u8; 65535];
     let mut numbers = [0u64; 32768];
@@ -59,17 +59,18 @@ fn run(rt: &impl Print, reader: &mut impl BufRead) -> io::Result<()> {
             break;
         };
         match take_line(rt, &mut session, read, &mut numbers) {
-            Ok(()) => {}
-            Err(Failure::Wrong(wrong)) => println!(rt; "line {at}: {wrong}")?,
-            Err(Failure::Output(error)) => return Err(error),
+            Ok(()) | Err(Failure::Output(_)) => {}
+            Err(Failure::Wrong(wrong)) => {
+                let _ = println!(rt; "line {at}: {wrong}");
+            }
         }
     }
-    Ok(())
 }
 
-// A write that fails ends the run with nothing after it; no status says so.
+// Where there is no memory for a block, the lines are read without one.
 fn main(rt: HostRuntime) {
-    if let Ok(mut reader) = BufReader::new(rt.alloc(), rt.stdin()) {
-        let _ = run(&rt, &mut reader);
+    match BufReader::with_capacity(rt.alloc(), 65536, rt.stdin()) {
+        Ok(mut reader) => run(&rt, &mut reader),
+        Err(_) => run(&rt, &mut rt.reader()),
     }
 }

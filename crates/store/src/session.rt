@@ -64,10 +64,10 @@ impl Session {
         };
         let s = self.all.get_mut(..len).ok_or(Wrong::TooManyWords)?;
         let answer = call_create::new(s, capacity, nodes, start);
-        store_print::print_answer(rt, b"create", b"create", answer)?;
         if answer.is_ok() {
             self.words = len;
         }
+        store_print::print_answer(rt, b"create", b"create", answer)?;
         Ok(())
     }
 

@@ -12,19 +12,30 @@ use chain::Chain;
 use fault::Fault;
 use model::answer::Refusal;
 use model::id::NodeNo;
-use std::io;
+use std::{fmt, io};
 use store_print::{List, Row};
 use walk::Node;
 
-// Two spaces for each node above, and then number, height, rows and entries of a node.
+// Two spaces for each node above.
+#[derive(Clone, Copy)]
+struct Indent(usize);
+
+impl fmt::Display for Indent {
+    fn fmt<W: fmt::Write>(&self, f: &mut fmt::Formatter<W>) -> fmt::Result {
+        for _ in 0..self.0 {
+            f.write_str("  ")?;
+        }
+        Ok(())
+    }
+}
+
+// Number, height, rows and entries of a node, after its indent. The head is one write: a deep node has no more than others.
 fn draw(rt: &impl Print, s: &[u64], node: Node) -> io::Result<()> {
     let n = node.number;
     let height = words::part(s, n, 0);
-    for _ in 0..node.level {
-        print!(rt; "  ")?;
-    }
     print!(rt;
-        "#{n} height {height} rows {}..{}",
+        "{}#{n} height {height} rows {}..{}",
+        Indent(node.level),
         Row(words::part(s, n, 2)),
         Row(words::part(s, n, 3))
     )?;

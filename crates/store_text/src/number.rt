@@ -39,3 +39,15 @@ pub fn read_numbers<'a, 'b>(
     }
     Ok(&buffer[..count])
 }
+
+// How many numbers the words are, with those that no buffer has room for.
+pub fn count_numbers(words: Words<'_>) -> Result<usize, NumberError<'_>>
+    ensures { IfOk result (λ count. count ≤ length words.entry.0.now) }
+{
+    let mut count: usize = 0;
+    for word in words {
+        read_number(word)?;
+        count += 1;
+    }
+    Ok(count)
+}
