@@ -3,7 +3,9 @@ use Prim.Native.Nat.{ℕ, zero, suc, ◌+◌, ◌*◌, ◌/◌, ◌≤◌, ◌<�
 use mathlib.Core.Path.{◌≡◌, refl, sym, ◌∙◌, ap, subst}
 use mathlib.Core.List.{List, [], ◌∷◌}
 use native.Mathlib.Omega.{arith}
-use lib.ListN.{length}
+use native.Mathlib.Numerals.{add-one}
+use lib.ListN.{length, set, take, get_or}
+use lib.Seq.{take-suc, length-take-le}
 use Rattle.model.specs.Words.{lent, shape, fill, row, child, pair_words, Header}
 use Rattle.std.specs.Prelude.{Option, Some, Result, Ok}
 use Rattle.model.specs.LeafWalk.{Stepped, records, next_leaf_of}
@@ -12,6 +14,7 @@ use Rattle.model.specs.declared.answer.Leaf.{Leaf}
 use Rattle.model.specs.declared.answer.Refusal.{Refusal}
 use Rattle.model.specs.declared.cursor.RowPageIndexMemCursor.{RowPageIndexMemCursor}
 use Rattle.model.specs.declared.node.PageEntry.{PageEntry}
+use Rattle.model.proofs.Fill.{fill_snoc}
 use Rattle.model.proofs.Parts.{pair_first}
 use Rattle.node_read.specs.Layout.{shape_of, Fits}
 use Rattle.next_records.specs.Listing.{records_of}
@@ -40,6 +43,17 @@ pairs-all s e (f, (l, k)) = pairs-are e.layout.capacity e.layout.pool s f e.leaf
 pub no_pairs : (l s : List ℕ) (e : LeafEntries) → e.count ≡ 0 → l ≡ fill l 0 (record_words (records_of s e))
 unfolding fill record_words records
 no_pairs l s e z = let w : l ≡ fill l 0 (record_words (records (shape_of e.layout) s e.leaf.0 0 0)) = refl in subst (λ (k : ℕ). l ≡ fill l 0 (record_words (records (shape_of e.layout) s e.leaf.0 0 k))) (sym z) w
+
+-- no word of a list yet
+pub none : (l xs : List ℕ) → l ≡ fill l 0 (take 0 xs)
+unfolding fill
+none l xs = refl
+
+-- one word more of a list
+pub one_more : (l xs ys : List ℕ) (i : ℕ) → i < length xs → ys ≡ fill l 0 (take i xs) → set ys i (get_or xs i 0) ≡ fill l 0 (take (i + 1) xs)
+one_more l xs ys i h is =
+    let e : 0 + length (take i xs) ≡ i = omega (arith, length-take-le i xs (omega arith)) in
+    rw (is, add-one i, take-suc xs i 0 h, fill_snoc l 0 (take i xs) (get_or xs i 0), e)
 
 -- A step of each kind, for callers that lend words.
 module _ (w : List ℕ) (c : RowPageIndexMemCursor) (before : List ℕ) where

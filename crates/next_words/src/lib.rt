@@ -39,7 +39,10 @@ fn copy_front(from: &[u64], out: &mut [u64])
     requires { length from.now ≤ length out.old }
     ensures { out.new ≡ fill out.old 0 from.now }
 {
-    out[..from.len()].copy_from_slice(from);
+    // no `copy_from_slice`: it becomes `memmove`, which a host need not have
+    for i in 0..from.len() {
+        out[i] = from[i];
+    }
 }
 
 // Row and page of each entry in turn: the words of the leaf's pairs as they stand.

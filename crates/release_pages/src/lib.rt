@@ -32,6 +32,7 @@ fn copy_leaf(s: Store<'_>, n: NodeNo, pages: &mut [u64], at: usize) -> usize
 }
 
 // The page ids of a sound tree go into the list, left to right: those of a leaf as the walk leaves it.
+#[inline(always)]
 pub fn copy_tree(s: Store<'_>, node: NodeNo, pages: &mut [u64])
     requires releasable { Releasable (shape_of s.layout) s.layout.pool s.words.now node.0 0 }
     requires node_in_bounds { length (root_entries (shape_of s.layout) s.words.now node.0) ≤ length pages.old }
