@@ -4,8 +4,8 @@
 #![tactic(auto)]
 
 use script_input::name::Name;
-use std::io::Read;
 use std::fmt;
+use std::io::Read;
 
 // A record's call, by its kind's number as `Name` takes it, and all its words. `Record` has no page ids of a prune, and a match
 // on it would only write every call's numbers in the order that the words have.
