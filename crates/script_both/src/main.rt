@@ -8,6 +8,7 @@ pub mod single;
 
 ghost use Rattle.std.specs.Prelude.{◌≡◌, ◌+◌, ◌≤◌, IfSome, length};
 
+use lossy_print::Lossy;
 use std::io;
 
 // What the bytes hold before a call; no listing has this byte.
@@ -144,19 +145,19 @@ fn split_script(bytes: &[u8]) -> Option<(&[u8], &[u8])>
     bytes[4..].split_at_checked(len)
 }
 
-// Each script of the input, and how many bytes are left after the last. Where a line cannot be written, the scripts after it are
-// compared all the same.
-fn report_all(rt: &impl Print, input: &[u8], outputs: &mut Outputs<'_>)
+// Each script of the input, and how many bytes are left after the last.
+fn report_all(rt: &impl Print, input: &[u8], outputs: &mut Outputs<'_>) -> io::Result<()>
     requires { length input.now ≤ 65536 }
 {
     let mut rest = input;
     while let Some((script, after)) = split_script(rest) {
-        let _ = outputs.report(rt, script);
+        outputs.report(rt, script)?;
         rest = after;
     }
-    let _ = println!(rt; "left {}", rest.len());
+    println!(rt; "left {}", rest.len())
 }
 
+// What cannot be written is left out, and all after it is tried.
 fn main(rt: HostRuntime) {
     let mut input = [0u8; 65536];
     let mut whole = [0u8; 65536];
@@ -166,5 +167,5 @@ fn main(rt: HostRuntime) {
         whole: &mut whole,
         blocks: &mut blocks,
     };
-    report_all(&rt, &input[..n], &mut outputs);
+    let _ = report_all(&Lossy(&rt), &input[..n], &mut outputs);
 }

@@ -1,4 +1,4 @@
-// The calls on the words that are lent, each with its lines.
+// The calls on the words that are lent, each with its lines. A long line is written in parts of at most 1,024 bytes, each one write.
 
 use model::answer::Leaf;
 use model::cursor::RowPageIndexMemCursor;
@@ -36,7 +36,11 @@ pub fn release(rt: &impl Print, s: &mut [u64], pivot: RowID, most: usize) -> io:
     if let Ok(released) = answer
         && let Some(given) = pages.get(..released.pages as usize)
     {
-        println!(rt; "pages{}", List(given))?;
+        print!(rt; "pages")?;
+        for part in given.chunks(48) {
+            print!(rt; "{}", List(part))?;
+        }
+        println!(rt; "")?;
     }
     Ok(())
 }
@@ -84,7 +88,11 @@ pub fn next(
     if let Some(leaf) = step(rt, s, cursor, &mut records, most)?
         && let Some(entries) = records.get(..leaf.count as usize)
     {
-        println!(rt; "entries{}", Entries(entries))?;
+        print!(rt; "entries")?;
+        for part in entries.chunks(24) {
+            print!(rt; "{}", Entries(part))?;
+        }
+        println!(rt; "")?;
     }
     Ok(())
 }

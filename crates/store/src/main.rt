@@ -10,6 +10,7 @@ pub mod tool;
 pub mod wrong;
 
 use kind::Kind;
+use lossy_print::Lossy;
 use session::{Asked, Session};
 use std::io::{BufRead, BufReader};
 use store_text::line::{TooLong, Words};
@@ -49,7 +50,6 @@ fn take_line<'a>(
 }
 
 // A proved loop has to end, and nothing says that the input does: the lines are counted up to a number that no run reaches.
-// Where an answer cannot be written, the lines after it are done all the same.
 fn run(rt: &impl Print, reader: &mut impl BufRead) {
     let mut session = Session::new();
     let mut buffer = [0u8; 65535];
@@ -67,10 +67,11 @@ fn run(rt: &impl Print, reader: &mut impl BufRead) {
     }
 }
 
-// Where there is no memory for a block, the lines are read without one.
+// Where there is no memory for a block, the lines are read without one. What cannot be written is left out, and all after it is
+// tried.
 fn main(rt: HostRuntime) {
     match BufReader::with_capacity(rt.alloc(), 65536, rt.stdin()) {
-        Ok(mut reader) => run(&rt, &mut reader),
-        Err(_) => run(&rt, &mut rt.reader()),
+        Ok(mut reader) => run(&Lossy(&rt), &mut reader),
+        Err(_) => run(&Lossy(&rt), &mut rt.reader()),
     }
 }
