@@ -23,7 +23,9 @@ pub fn tell(out: &mut [u64], n: Numbers) -> u64
 {
     let [first, second, third, fourth, fifth] = n.values;
     let words = [n.number, n.count, first, second, third, fourth, fifth];
-    let len = out.len().min(words.len());
-    out[..len].copy_from_slice(&words[..len]);
+    // no `copy_from_slice`: of a length that is not known it is a call of `memcpy`
+    for i in 0..words.len() {
+        put(out, i, words[i]);
+    }
     n.number
 }
