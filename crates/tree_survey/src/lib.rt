@@ -115,6 +115,10 @@ pub fn survey_both(s: Store<'_>, root: NodeNo) -> Surveys
     };
     let counts = tree_tally::count_node(s, root, zero);
     let wrong = look_at_end(s, root, None, none);
+    // nothing stands below a leaf: no walk is built
+    if h.is_leaf() {
+        return both(s.layout, Ok(counts), wrong);
+    }
     survey_below(s, root, first, counts, wrong)
 }
 

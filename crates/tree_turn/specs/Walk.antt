@@ -26,7 +26,7 @@ pub record Walking (C : Shape) (P : ℕ) (w : List ℕ) (t : TreeWalk) : Type 0 
 
 -- a walk at a node just entered
 abbrev pub rooted_walk : ℕ → ℕ → TreeWalk
-rooted_walk n first = record { path = rooted n; nexts = replicate 32 None; firsts = replicate 32 first }
+rooted_walk n first = record { path = rooted n; nexts = set (replicate 32 (Some (record { 0 = 0 }))) 0 None; firsts = replicate 32 first }
 
 -- the turn at the last position
 abbrev pub turn_at : Shape → ℕ → List ℕ → TreeWalk → Turning

@@ -21,13 +21,17 @@ pub struct TreeWalk {
 }
 
 impl TreeWalk {
-    // At a node just entered.
+    // At a node just entered. Not placed into its callers, and a row where nothing is read yet: for 32 times `None` a compiler calls
+    // `memset`, which a host need not have.
+    #[inline(never)]
     pub fn rooted(node: NodeNo, first: u64) -> TreeWalk
         ensures { result ≡ rooted_walk node.0 first }
     {
+        let mut nexts = [Some(RowID(0)); 32];
+        nexts[0] = None;
         TreeWalk {
             path: Path::rooted(node),
-            nexts: [None; 32],
+            nexts,
             firsts: [first; 32],
         }
     }
