@@ -25,10 +25,11 @@ pub fn destroy_empty(s: &mut [u64]) -> Result<Released, Refusal>
     let layout = h.layout;
     let root = h.root;
     let read = Store { layout, words: &*s };
-    if !node_root::is_sound_root(read, root) {
-        return Err(Refusal::Unsound(root));
-    }
+    // an empty root is sound: the test of a sound one is made for the refusal alone
     if !node_root::is_empty_root(read, root) {
+        if !node_root::is_sound_root(read, root) {
+            return Err(Refusal::Unsound(root));
+        }
         return Err(Refusal::RowBelowPivot(RowID(0)));
     }
     if layout.pool < h.free_count + 1 {
