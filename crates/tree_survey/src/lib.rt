@@ -74,6 +74,8 @@ fn survey_below(s: Store<'_>, node: NodeNo, first: u64, start: Counts, seen: Nod
     ensures ends { result.ends ≡ with_ends (wrong_of s.entry.layout.pool seen.0) (tally (shape_of s.entry.layout) s.entry.words.now (below true (shape_of s.entry.layout) s.entry.layout.pool s.entry.words.now node.0) start) }
 {
     let mut walk = TreeWalk::rooted(node, first);
+    // so it stands already: seen here, it is not read from memory at each turn
+    walk.path.depth = 1;
     let mut counts = start;
     let mut wrong = seen;
     // up and down the tree: no index is counted
